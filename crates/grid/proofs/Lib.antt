@@ -1,0 +1,6 @@
+pub mod PlaceLaws
+pub mod CellLaws
+pub mod Sizes
+pub mod Meanings
+pub mod RefusalLaws
+pub mod HalfLaws

@@ -1,0 +1,69 @@
+-- What is known of bare numbers once they were taken or refused. Assumes nothing.
+use mathlib.Core.Path.{_≡_, refl, sym, ap, ap₂, subst, fun-ext, _∙_}
+use mathlib.Core.Bool.{Bool, true, false, cond, _&&_}
+use Prim.Native.Nat.{ℕ}
+use native.Mathlib.Omega.{arith}
+use Rattle.std.proofs.shelf.Tests.{and-from, and-left, and-right, cond-true, cond-false}
+use Rattle.std.specs.declared.option.Option.{Option}
+use Rattle.std.specs.declared.option.Option.the-variants.{Some, None}
+use Rattle.std.specs.declared.result.Result.{Result}
+use Rattle.std.specs.declared.result.Result.the-variants.{Ok, Err}
+use Rattle.grid.specs.declared.axis.Axis.{Axis}
+use Rattle.grid.specs.declared.bare.BarePlace.{BarePlace}
+use Rattle.grid.specs.declared.place.Place.{Place}
+use Rattle.grid.specs.declared.cell.Cell.{Cell}
+use Rattle.grid.specs.Axes.{top, below}
+use Rattle.grid.specs.Places.{at, place-if, placeFrom}
+use Rattle.grid.specs.Cells.{lo, hi, cellFrom}
+use Rattle.grid.specs.Refusals.{orRefuse, numbers, placeOf, workspaceOf}
+use Rattle.grid.proofs.PlaceLaws.{triple-is}
+use Rattle.grid.proofs.CellLaws.{Found, cellFrom-found}
+
+-- The numbers as they were taken for a place, or refused.
+abbrev pub Taken : (Axis → ℕ) → Result Place ℕ → Type 0
+Taken f (Ok p) = (below f top ≡ true) × ((x : Axis) → at p x ≡ f x)
+Taken f (Err n) = (below f top ≡ false) × (n ≡ 3)
+
+place-if-taken : (f : Axis → ℕ) (b : Bool) (e : below f top ≡ b) → Taken f (orRefuse (place-if f b e) 3)
+place-if-taken f true e = (e, triple-is f)
+place-if-taken f false e = (e, refl)
+
+pub placeOf-taken : (b : BarePlace) → Taken (numbers b) (placeOf b)
+placeOf-taken b = place-if-taken (numbers b) (below (numbers b) top) refl
+
+-- both ends were taken: what is between them is the workspace, or 4
+pub workspace-between : (low high : BarePlace) (p q : Place) → Ok p ≡ placeOf low → Ok q ≡ placeOf high → orRefuse (cellFrom (at p) (at q)) 4 ≡ workspaceOf low high
+workspace-between low high p q e f =
+    let l : Taken (numbers low) (Ok p) = subst (Taken (numbers low)) (sym e) (placeOf-taken low) in
+    let h : Taken (numbers high) (Ok q) = subst (Taken (numbers high)) (sym f) (placeOf-taken high) in
+    ap (λ o. orRefuse o 4) (ap₂ cellFrom (fun-ext (l .1)) (fun-ext (h .1)))
+    ∙ sym (cond-true (below (numbers low) top && below (numbers high) top) (orRefuse (cellFrom (numbers low) (numbers high)) 4) (Err 3) (and-from (below (numbers low) top) (below (numbers high) top) (l .0) (h .0)))
+
+-- one end was refused: so is the workspace, with the same number
+pub workspace-low : (low high : BarePlace) (n : ℕ) → Err n ≡ placeOf low → Err n ≡ workspaceOf low high
+workspace-low low high n e =
+    let l : Taken (numbers low) (Err n) = subst (Taken (numbers low)) (sym e) (placeOf-taken low) in
+    ap Err (l .1) ∙ sym (cond-false (below (numbers low) top && below (numbers high) top) (orRefuse (cellFrom (numbers low) (numbers high)) 4) (Err 3) (and-left (below (numbers low) top) (below (numbers high) top) (l .0)))
+
+pub workspace-high : (low high : BarePlace) (n : ℕ) → Err n ≡ placeOf high → Err n ≡ workspaceOf low high
+workspace-high low high n e =
+    let h : Taken (numbers high) (Err n) = subst (Taken (numbers high)) (sym e) (placeOf-taken high) in
+    ap Err (h .1) ∙ sym (cond-false (below (numbers low) top && below (numbers high) top) (orRefuse (cellFrom (numbers low) (numbers high)) 4) (Err 3) (and-right (below (numbers low) top) (below (numbers high) top) (h .0)))
+
+-- A workspace has the ends that were asked for.
+abbrev pub Ended : (Axis → ℕ) → (Axis → ℕ) → Result Cell ℕ → Type 0
+Ended low high (Ok c) = ((x : Axis) → lo c x ≡ low x) × ((x : Axis) → hi c x ≡ high x)
+Ended low high (Err n) = Unit {0}
+
+found-ended : (low high : Axis → ℕ) (o : Option Cell) → Found low high o → Ended low high (orRefuse o 4)
+found-ended low high (Some c) f = f
+found-ended low high None f = tt
+
+checked-ended : (low high : Axis → ℕ) (b : Bool) (r : Result Cell ℕ) → Ended low high r → Ended low high (cond b r (Err 3))
+checked-ended low high true r e = e
+checked-ended low high false r e = tt
+
+pub workspace-ended : (low high : BarePlace) → Ended (numbers low) (numbers high) (workspaceOf low high)
+workspace-ended low high =
+    checked-ended (numbers low) (numbers high) (below (numbers low) top && below (numbers high) top) (orRefuse (cellFrom (numbers low) (numbers high)) 4)
+    (found-ended (numbers low) (numbers high) (cellFrom (numbers low) (numbers high)) (cellFrom-found (numbers low) (numbers high)))

@@ -1,0 +1,5 @@
+pub mod Axes
+pub mod Places
+pub mod Cells
+pub mod Laws
+pub mod Refusals
