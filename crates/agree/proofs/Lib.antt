@@ -1,0 +1,3 @@
+pub mod Courses
+pub mod CountLaws
+pub mod Pictures

@@ -1,0 +1,144 @@
+// Compares the stitch chart of an intarsia panel with the carriage program that should knit it.
+mod compare;
+mod panel;
+
+use charts::Chart;
+use charts::ChartPattern;
+use compare::Stitch;
+use grid::BarePlace;
+use grid::Cell;
+use grid::Place;
+use passes::PassList;
+use passes::PassPattern;
+use std::error::AnyError;
+use std::io;
+
+// Prints the ends and the sizes of the workspace.
+fn report_workspace(rt: &impl Print, workspace: &Cell) -> io::Result<()> {
+    let low = workspace.low();
+    let high = workspace.high();
+    println!(
+        rt,
+        "workspace: needles {} to {}, courses {} to {}, tracks {} to {}",
+        low.needle(),
+        high.needle(),
+        low.course(),
+        high.course(),
+        low.track(),
+        high.track()
+    )?;
+    let places = workspace.places();
+    let halvings = workspace.halvings();
+    println!(rt, "{places} places, to be halved {halvings} times at most")
+}
+
+// Prints who has the stitch at a place, if only one of the two has it.
+fn report_place(rt: &impl Print, chart: &Chart, passes: &PassList, place: Place) -> io::Result<()> {
+    let needle = place.needle();
+    let track = place.track();
+    if compare::is_kind(chart, passes, place, Stitch::ChartOnly) {
+        println!(
+            rt,
+            "  needle {needle}, track {track}: only the chart has a stitch"
+        )?;
+    }
+    if compare::is_kind(chart, passes, place, Stitch::PassesOnly) {
+        println!(
+            rt,
+            "  needle {needle}, track {track}: only the passes have a stitch"
+        )?;
+    }
+    Ok(())
+}
+
+// Prints the places of one needle of a course where the two differ, by rising track.
+fn report_needle(
+    rt: &impl Print,
+    chart: &Chart,
+    passes: &PassList,
+    needle: u16,
+    cell: &Cell,
+) -> io::Result<()> {
+    for track in cell.low().track()..=cell.high().track() {
+        let bare = BarePlace {
+            needle,
+            course: cell.low().course(),
+            track,
+        };
+        if let Ok(place) = Place::new(bare) {
+            report_place(rt, chart, passes, place)?;
+        }
+    }
+    Ok(())
+}
+
+// Prints whether the two agree in a course, and if not, the places where they differ.
+fn report_course(rt: &impl Print, chart: &Chart, passes: &PassList, cell: &Cell) -> io::Result<()> {
+    let course = cell.low().course();
+    if compare::agrees(chart, passes, *cell) {
+        return println!(rt, "course {course}: agrees");
+    }
+    println!(rt, "course {course}: differs")?;
+    for needle in cell.low().needle()..=cell.high().needle() {
+        report_needle(rt, chart, passes, needle, cell)?;
+    }
+    Ok(())
+}
+
+// Prints the courses of the workspace, one after the other.
+fn report_courses(
+    rt: &impl Print,
+    chart: &Chart,
+    passes: &PassList,
+    workspace: &Cell,
+) -> io::Result<()> {
+    for course in workspace.low().course()..=workspace.high().course() {
+        if let Some(cell) = compare::course_of(*workspace, course) {
+            report_course(rt, chart, passes, &cell)?;
+        }
+    }
+    Ok(())
+}
+
+// Prints how many stitches the two have in common, how many only one of them has, and whether they agree.
+fn report_totals(
+    rt: &impl Print,
+    chart: &Chart,
+    passes: &PassList,
+    workspace: &Cell,
+) -> io::Result<()> {
+    let both = compare::count(chart, passes, *workspace, Stitch::Both);
+    let chart_only = compare::count(chart, passes, *workspace, Stitch::ChartOnly);
+    let passes_only = compare::count(chart, passes, *workspace, Stitch::PassesOnly);
+    println!(rt, "stitches in both: {both}")?;
+    println!(rt, "only in the chart: {chart_only}")?;
+    println!(rt, "only in the passes: {passes_only}")?;
+    if compare::agrees(chart, passes, *workspace) {
+        println!(rt, "chart and passes agree")
+    } else {
+        println!(rt, "chart and passes differ")
+    }
+}
+
+fn run(rt: &LibcRuntime) -> Result<(), AnyError> {
+    let stitches = panel::stitches(rt.alloc(), panel::PICTURE)?;
+    let program = panel::program(rt.alloc(), &panel::RUNS)?;
+    let Ok(workspace) = Cell::workspace(panel::LOW, panel::HIGH) else {
+        return Err("the workspace is refused".into());
+    };
+    let chart = Chart::new(panel::LEFT, panel::FIRST, panel::WIDTH, stitches.as_slice());
+    let passes = PassList::new(program.as_slice());
+    let bytes = stitches.len();
+    let width = panel::WIDTH;
+    let count = program.len();
+    println!(rt, "chart: {bytes} bytes in rows of {width}")?;
+    println!(rt, "carriage program: {count} passes")?;
+    report_workspace(rt, &workspace)?;
+    report_courses(rt, &chart, &passes, &workspace)?;
+    report_totals(rt, &chart, &passes, &workspace)?;
+    Ok(())
+}
+
+fn main(rt: LibcRuntime) -> Result<(), AnyError> {
+    rt.report(run(&rt))
+}
