@@ -7,7 +7,7 @@ use Rattle.grid.specs.declared.axis.Axis.{Axis}
 use Rattle.grid.specs.declared.axis.Axis.the-variants.{Needle, Course, Track}
 use Rattle.grid.specs.declared.cell.Cell.{Cell}
 use Rattle.grid.specs.declared.place.Place.{Place}
-use Rattle.grid.specs.Axes.{top, triple}
+use Rattle.grid.specs.Axes.{triple}
 use Rattle.grid.specs.Places.{at}
 use Rattle.grid.specs.Cells.{lo, hi, In}
 

@@ -1,3 +1,2 @@
 pub mod Courses
-pub mod CountLaws
 pub mod Pictures

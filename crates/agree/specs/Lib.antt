@@ -1,3 +1,2 @@
-pub mod Counts
-pub mod Compare
+pub mod Courses
 pub mod Panel

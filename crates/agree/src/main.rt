@@ -1,10 +1,10 @@
 // Compares the stitch chart of an intarsia panel with the carriage program that should knit it.
-mod compare;
 mod panel;
 
+ghost use Rattle.agree.specs.Courses.{CourseOf};
 use charts::Chart;
 use charts::ChartPattern;
-use compare::Stitch;
+use compare::Holder;
 use grid::BarePlace;
 use grid::Cell;
 use grid::Place;
@@ -36,13 +36,13 @@ fn report_workspace(rt: &impl Print, workspace: &Cell) -> io::Result<()> {
 fn report_place(rt: &impl Print, chart: &Chart, passes: &PassList, place: Place) -> io::Result<()> {
     let needle = place.needle();
     let track = place.track();
-    if compare::is_kind(chart, passes, place, Stitch::ChartOnly) {
+    if compare::is_held_by(chart, passes, place, Holder::OnlyFirst) {
         println!(
             rt,
             "  needle {needle}, track {track}: only the chart has a stitch"
         )?;
     }
-    if compare::is_kind(chart, passes, place, Stitch::PassesOnly) {
+    if compare::is_held_by(chart, passes, place, Holder::OnlySecond) {
         println!(
             rt,
             "  needle {needle}, track {track}: only the passes have a stitch"
@@ -85,6 +85,26 @@ fn report_course(rt: &impl Print, chart: &Chart, passes: &PassList, cell: &Cell)
     Ok(())
 }
 
+// The part of the workspace that lies in one course.
+fn course_of(workspace: &Cell, course: u16) -> Option<Cell>
+    ensures { λ r. ⌜ CourseOf (now (workspace .entry)) course r ⌝ }
+{
+    let low = BarePlace {
+        needle: 0,
+        course,
+        track: 0,
+    };
+    let high = BarePlace {
+        needle: 4095,
+        course,
+        track: 7,
+    };
+    match Cell::workspace(low, high) {
+        Ok(whole) => workspace.cut(whole),
+        Err(_) => None,
+    }
+}
+
 // Prints the courses of the workspace, one after the other.
 fn report_courses(
     rt: &impl Print,
@@ -93,7 +113,7 @@ fn report_courses(
     workspace: &Cell,
 ) -> io::Result<()> {
     for course in workspace.low().course()..=workspace.high().course() {
-        if let Some(cell) = compare::course_of(*workspace, course) {
+        if let Some(cell) = course_of(workspace, course) {
             report_course(rt, chart, passes, &cell)?;
         }
     }
@@ -107,9 +127,9 @@ fn report_totals(
     passes: &PassList,
     workspace: &Cell,
 ) -> io::Result<()> {
-    let both = compare::count(chart, passes, *workspace, Stitch::Both);
-    let chart_only = compare::count(chart, passes, *workspace, Stitch::ChartOnly);
-    let passes_only = compare::count(chart, passes, *workspace, Stitch::PassesOnly);
+    let both = compare::count(chart, passes, *workspace, Holder::Both);
+    let chart_only = compare::count(chart, passes, *workspace, Holder::OnlyFirst);
+    let passes_only = compare::count(chart, passes, *workspace, Holder::OnlySecond);
     println!(rt, "stitches in both: {both}")?;
     println!(rt, "only in the chart: {chart_only}")?;
     println!(rt, "only in the passes: {passes_only}")?;

@@ -156,18 +156,25 @@ pub fn stitches(heap: Global, picture: &str) -> Result<Vec<u8>, AllocError>
     Ok(bytes)
 }
 
+// The pass that a run stands for.
+fn pass(run: &[u16; 4]) -> Pass
+    ensures { λ r. ⌜ r ≡ passOf (now (run .entry)) ⌝ }
+{
+    Pass {
+        course: run[0],
+        track: run[1],
+        from: run[2],
+        to: run[3],
+    }
+}
+
 // The passes that the runs stand for, in order.
 pub fn program(heap: Global, runs: &[[u16; 4]]) -> Result<Vec<Pass>, AllocError>
     ensures { λ r. ⌜ made r (λ v. vec-items v ≡ map passOf (now (runs .entry))) ⌝ }
 {
     let mut passes = Vec::new(heap);
     for run in runs {
-        passes.push(Pass {
-            course: run[0],
-            track: run[1],
-            from: run[2],
-            to: run[3],
-        })?;
+        passes.push(pass(run))?;
     }
     Ok(passes)
 }

@@ -55,3 +55,6 @@ pub impl<'a> Pattern for Chart<'a> as ChartPattern {
         leaf == 0 && self.stitches(place)
     }
 }
+
+#[cfg(test)]
+mod tests;

@@ -1,12 +1,11 @@
 -- What halving does to the places, the count and the halvings left. Assumes nothing.
 use mathlib.Core.Path.{_≡_, refl, sym, ap, ap₂, subst, fun-ext, _∙_}
-use mathlib.Core.Bool.{Bool, true, false, cond, _&&_}
-use mathlib.Core.Logic.{_⊎_, inl, inr, ⊎-elim}
-use Prim.Native.Nat.{ℕ, zero, suc, _+_, _-_, _*_, _/_, _≤_, _<_}
+use mathlib.Core.Bool.{Bool, true, false, cond}
+use mathlib.Core.Logic.{inl, inr, ⊎-elim}
+use Prim.Native.Nat.{ℕ, zero, suc, _+_, _-_, _/_, _≤_, _<_}
 use native.Mathlib.Omega.{arith}
 use lib.Dec.{leb, eqb}
 use Rattle.std.proofs.shelf.Tests.{cases-lt, cond-both, cond-true, cond-false, eqb-true, leb-true, leb-false}
-use Rattle.std.specs.declared.option.Option.{Option}
 use Rattle.std.specs.declared.option.Option.the-variants.{Some, None}
 use Rattle.grid.specs.declared.axis.Axis.{Axis}
 use Rattle.grid.specs.declared.axis.Axis.the-variants.{Needle, Course, Track}
@@ -14,7 +13,7 @@ use Rattle.grid.specs.declared.place.Place.{Place}
 use Rattle.grid.specs.declared.cell.Cell.{Cell}
 use Rattle.grid.specs.Axes.{Below, rank, total, product, put}
 use Rattle.grid.specs.Places.{below-true, at}
-use Rattle.grid.specs.Cells.{lo, hi, In, single, side, placesOf, longer, longestOf, middleOf, both, halvesOf, halvings, halvingsOf, cellFrom}
+use Rattle.grid.specs.Cells.{lo, hi, In, single, side, longer, longestOf, middleOf, both, halvesOf, halvings, halvingsOf, cellFrom}
 use Rattle.grid.specs.Laws.{Halved, Lone}
 use Rattle.grid.proofs.PlaceLaws.{below-false}
 use Rattle.grid.proofs.CellLaws.{cellFrom-is}

@@ -1,7 +1,6 @@
 -- What the tests, cuts and hulls of cells say of places. Assumes nothing.
-use mathlib.Core.Path.{_≡_, refl, sym, ap, subst, _∙_}
-use mathlib.Core.Bool.{Bool, true, false}
-use mathlib.Core.Logic.{_⊎_, inl, inr, ⊎-elim}
+use mathlib.Core.Path.{_≡_, refl, ap}
+use mathlib.Core.Bool.{true}
 use Prim.Native.Nat.{ℕ, suc, _^_, _≤_, min, max}
 use native.Mathlib.Omega.{arith}
 use lib.Dec.{lit≤}
@@ -17,7 +16,7 @@ use Rattle.grid.specs.declared.axis.Axis.the-variants.{Needle, Course, Track}
 use Rattle.grid.specs.Axes.{top, Below, below}
 use Rattle.grid.specs.Places.{below-true, at, place-at}
 use Rattle.grid.specs.Cells.{lo, hi, In, inside, within, meet, single, side, cutOf, hullOf, placesOf, halvings, halvingsOf}
-use Rattle.grid.specs.Laws.{Holds, Part, CutLaw, HullLaw, WithinLaw}
+use Rattle.grid.specs.Laws.{Part, CutLaw, HullLaw, WithinLaw}
 use Rattle.grid.proofs.PlaceLaws.{decides-below, place-ext, triple-is}
 use Rattle.grid.proofs.CellLaws.{Found, cellFrom-found}
 use Rattle.grid.proofs.Sizes.{total-mono, product-mono, halvings-mono}

@@ -3,20 +3,19 @@ use mathlib.Core.Path.{_≡_, refl, sym, ap, _∙_}
 use mathlib.Core.Bool.{Bool, true, false, _&&_}
 use mathlib.Core.HLevel.{isProp→PathP, Π-prop}
 use mathlib.Core.Logic.{⊎-elim}
-use Prim.Native.Nat.{ℕ, _≤_, _<_}
+use Prim.Native.Nat.{ℕ, _<_}
 use native.Mathlib.Bridge.{le-prop}
 use native.Mathlib.Omega.{arith}
 use lib.Dec.{leb}
 use Rattle.std.proofs.shelf.Tests.{and-from, and-cases, le-leb, leb-false, true≢false}
 use Rattle.std.proofs.shelf.Ways.{tells}
 use Rattle.std.specs.Orderings.{Decides}
-use Rattle.std.specs.declared.option.Option.{Option}
 use Rattle.std.specs.declared.option.Option.the-variants.{Some, None}
 use Rattle.grid.specs.declared.axis.Axis.{Axis}
 use Rattle.grid.specs.declared.axis.Axis.the-variants.{Needle, Course, Track}
 use Rattle.grid.specs.declared.place.Place.{Place}
 use Rattle.grid.specs.Axes.{top, triple, Below, below}
-use Rattle.grid.specs.Places.{below-true, at, place-at, place-if, placeFrom}
+use Rattle.grid.specs.Places.{below-true, at, place-if, placeFrom}
 
 pub below-from : (f g : Axis → ℕ) → Below f g → below f g ≡ true
 below-from f g h =

@@ -2,7 +2,6 @@
 use mathlib.Core.Path.{_≡_, refl, sym, ap, ap₂, subst, fun-ext, _∙_}
 use mathlib.Core.Bool.{Bool, true, false, cond, _&&_}
 use Prim.Native.Nat.{ℕ}
-use native.Mathlib.Omega.{arith}
 use Rattle.std.proofs.shelf.Tests.{and-from, and-left, and-right, cond-true, cond-false}
 use Rattle.std.specs.declared.option.Option.{Option}
 use Rattle.std.specs.declared.option.Option.the-variants.{Some, None}
@@ -13,7 +12,7 @@ use Rattle.grid.specs.declared.bare.BarePlace.{BarePlace}
 use Rattle.grid.specs.declared.place.Place.{Place}
 use Rattle.grid.specs.declared.cell.Cell.{Cell}
 use Rattle.grid.specs.Axes.{top, below}
-use Rattle.grid.specs.Places.{at, place-if, placeFrom}
+use Rattle.grid.specs.Places.{at, place-if}
 use Rattle.grid.specs.Cells.{lo, hi, cellFrom}
 use Rattle.grid.specs.Refusals.{orRefuse, numbers, placeOf, workspaceOf}
 use Rattle.grid.proofs.PlaceLaws.{triple-is}

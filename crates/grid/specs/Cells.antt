@@ -11,7 +11,7 @@ use Rattle.grid.specs.declared.axis.Axis.{Axis}
 use Rattle.grid.specs.declared.axis.Axis.the-variants.{Needle, Course, Track}
 use Rattle.grid.specs.declared.place.Place.{Place}
 use Rattle.grid.specs.declared.cell.Cell.{Cell}
-use Rattle.grid.specs.Axes.{top, triple, Below, below, total, product, put}
+use Rattle.grid.specs.Axes.{top, Below, below, total, product, put}
 use Rattle.grid.specs.Places.{at, below-true, below-triple, place-at}
 
 -- The low and the high end of a cell on each axis.

@@ -13,3 +13,7 @@ pub use bare::BarePlace;
 pub use cell::Cell;
 pub use place::Place;
 pub use refusal::Refusal;
+pub use refusal::RefusalDebug;
+
+#[cfg(test)]
+mod tests;

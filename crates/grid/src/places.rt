@@ -1,9 +1,6 @@
-// Places: made from bare numbers, read, and changed on one axis.
-ghost use Prim.Native.Nat.{_≤_, min, max};
+// Places: made from bare numbers, and read.
 ghost use mathlib.Core.Path.{_≡_};
-ghost use Rattle.grid.specs.declared.axis.Axis.{Axis};
 ghost use Rattle.grid.specs.declared.axis.Axis.the-variants.{Needle, Course, Track};
-ghost use Rattle.grid.specs.Axes.{top, put, below};
 ghost use Rattle.grid.specs.Places.{at};
 ghost use Rattle.grid.specs.Refusals.{numbered, placeOf};
 use crate::axis::Axis;
@@ -33,19 +30,19 @@ impl Place {
     pub fn needle(&self) -> u16
         ensures { λ r. ⌜ r ≡ at (now (self .entry)) Needle ⌝ }
     {
-        self.needle
+        self.on(Axis::Needle)
     }
 
     pub fn course(&self) -> u16
         ensures { λ r. ⌜ r ≡ at (now (self .entry)) Course ⌝ }
     {
-        self.course
+        self.on(Axis::Course)
     }
 
     pub fn track(&self) -> u16
         ensures { λ r. ⌜ r ≡ at (now (self .entry)) Track ⌝ }
     {
-        self.track
+        self.on(Axis::Track)
     }
 
     // The number on an axis.
@@ -57,58 +54,5 @@ impl Place {
             Axis::Course => self.course,
             Axis::Track => self.track,
         }
-    }
-
-    // The place with another number on an axis.
-    pub(crate) fn with(self, axis: Axis, value: u16) -> Place
-        requires { ⌜ value ≤ top axis ⌝ }
-        ensures { λ r. ⌜ ((x : Axis) → at r x ≡ put axis value (at self) x) ⌝ }
-    {
-        match axis {
-            Axis::Needle => Place {
-                needle: value,
-                course: self.course,
-                track: self.track,
-            },
-            Axis::Course => Place {
-                needle: self.needle,
-                course: value,
-                track: self.track,
-            },
-            Axis::Track => Place {
-                needle: self.needle,
-                course: self.course,
-                track: value,
-            },
-        }
-    }
-
-    // The greater of the two numbers on each axis.
-    pub(crate) fn greater(self, other: Place) -> Place
-        ensures { λ r. ⌜ ((x : Axis) → at r x ≡ max (at self x) (at other x)) ⌝ }
-    {
-        Place {
-            needle: self.needle.max(other.needle),
-            course: self.course.max(other.course),
-            track: self.track.max(other.track),
-        }
-    }
-
-    // The lesser of the two numbers on each axis.
-    pub(crate) fn lesser(self, other: Place) -> Place
-        ensures { λ r. ⌜ ((x : Axis) → at r x ≡ min (at self x) (at other x)) ⌝ }
-    {
-        Place {
-            needle: self.needle.min(other.needle),
-            course: self.course.min(other.course),
-            track: self.track.min(other.track),
-        }
-    }
-
-    // On no axis is the number above the other's.
-    pub(crate) fn is_below(self, other: Place) -> bool
-        ensures { λ r. ⌜ r ≡ below (at self) (at other) ⌝ }
-    {
-        self.needle <= other.needle && self.course <= other.course && self.track <= other.track
     }
 }

@@ -1,6 +1,5 @@
 -- The places that carriage passes knit.
-use Prim.Native.Nat.{ℕ}
-use mathlib.Core.Bool.{Bool, false, _&&_, _||_}
+use mathlib.Core.Bool.{false, _&&_, _||_}
 use mathlib.Core.List.{List, [], _∷_}
 use denote.Ref.{now}
 use lib.Dec.{eqb, leb}

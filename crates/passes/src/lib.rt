@@ -1,6 +1,6 @@
 // Carriage passes as a pattern of one leaf.
 ghost use mathlib.Core.Path.{_≡_};
-ghost use Rattle.passes.specs.Passes.{passSet, listed, leavesOf};
+ghost use Rattle.passes.specs.Passes.{passSet, passesSet, listed, leavesOf};
 use grid::Place;
 use pattern::Pattern;
 
@@ -25,6 +25,18 @@ impl Pass {
     }
 }
 
+// Whether one of the passes knits at a place.
+fn some_pass_holds(passes: &[Pass], place: Place) -> bool
+    ensures { λ r. ⌜ r ≡ passesSet (now (passes .entry)) place ⌝ }
+{
+    for pass in passes {
+        if pass.holds(place) {
+            return true;
+        }
+    }
+    false
+}
+
 // The passes of a carriage program, in the caller's memory.
 #[derive(Clone, Copy)]
 pub struct PassList<'a> {
@@ -47,14 +59,9 @@ pub impl<'a> Pattern for PassList<'a> as PassPattern {
     }
 
     fn holds(&self, leaf: u16, place: Place) -> bool {
-        if leaf != 0 {
-            return false;
-        }
-        for pass in self.passes {
-            if pass.holds(place) {
-                return true;
-            }
-        }
-        false
+        leaf == 0 && some_pass_holds(self.passes, place)
     }
 }
+
+#[cfg(test)]
+mod tests;

@@ -1,6 +1,5 @@
 use mathlib.Core.List.{[], _∷_, _++_, map}
-use mathlib.Core.Path.{sym, ap, _∙_}
-use lib.ListN.{getD}
+use mathlib.Core.Path.{sym, ap, ap₂, _∙_}
 use Rattle.std.proofs.shelf.Lists.{map-more, take-all}
 use Rattle.agree.specs.Panel.{passOf}
 use Rattle.agree.proofs.panel.program.Needs as need
@@ -10,7 +9,7 @@ loop-run-again c =
     let runs = c .args .runs .now in
     let i = c .loop-run .run-index in
     c .in-Continue-push .ensures tt .items
-    ∙ ap (λ l. l ++ passOf (getD runs i []) ∷ []) (c .loop-run .inv)
+    ∙ ap₂ (λ l p. l ++ p ∷ []) (c .loop-run .inv) (c .pass .ensures)
     ∙ sym (map-more passOf runs i [] (c .loop-run-test .taken))
 
 pub returns : need.returns

@@ -1,5 +1,5 @@
 use mathlib.Core.List.{[], _∷_, _++_}
-use mathlib.Core.Path.{_≡_, sym, ap, ap₂, _∙_}
+use mathlib.Core.Path.{sym, ap, ap₂, _∙_}
 use Rattle.std.proofs.shelf.Lists.{take-all}
 use Rattle.std.specs.Joined.{joined}
 use Rattle.agree.specs.Panel.{stitchOf}
