@@ -23,7 +23,7 @@ framed c p = leb (c .left) (at p Needle) && (leb (c .first) (at p Course) && ltb
 abbrev pub indexOf : Chart → Place → ℕ
 indexOf c p = (at p Course - c .first) * c .width + (at p Needle - c .left)
 
--- A byte below 8 names the track that has a stitch; any other byte means no stitch.
+-- A byte below 8 is the track of the stitch; any other stands for no stitch.
 abbrev pub names : ℕ → ℕ → Bool
 names byte track = ltb byte 8 && eqb byte track
 

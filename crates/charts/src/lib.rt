@@ -5,7 +5,7 @@ use grid::Place;
 use pattern::Pattern;
 
 // Rows of bytes in the caller's memory: the first byte stands at the left needle and the first course, and each byte
-// below 8 names the track that has a stitch. The last row may be partial.
+// below 8 is the track of a stitch. The last row may be partial.
 #[derive(Clone, Copy)]
 pub struct Chart<'a> {
     left: u16,

@@ -8,14 +8,6 @@ use grid::RefusalDebug;
 use pattern::Pattern;
 use std::test::*;
 
-fn place(numbers: [u16; 3]) -> Result<Place, Refusal> {
-    Place::new(BarePlace {
-        needle: numbers[0],
-        course: numbers[1],
-        track: numbers[2],
-    })
-}
-
 // A chart's frame: left needle, first course and width. A place and whether the chart of the bytes 1 1 2 9 holds it.
 const FRAMES: [([u16; 3], [u16; 3], bool); 21] = [
     ([10, 0, 3], [12, 0, 2], true),
@@ -70,4 +62,12 @@ fn bytes_name_tracks() -> Result<(), Fail> {
     let none = Chart::new(0, 0, 1, &[]);
     check_eq(none.leaves(), 1)?;
     check_eq(none.stitches(place([0, 0, 0])?), false)
+}
+
+fn place(numbers: [u16; 3]) -> Result<Place, Refusal> {
+    Place::new(BarePlace {
+        needle: numbers[0],
+        course: numbers[1],
+        track: numbers[2],
+    })
 }

@@ -4,9 +4,8 @@ ghost use mathlib.Core.Path.{_≡_};
 ghost use Prim.Native.Nat.{_≤_};
 ghost use Rattle.std.specs.Orderings.{Decides};
 ghost use Rattle.grid.specs.Cells.{placesOf};
-ghost use Rattle.pattern.specs.Sets.{leafSet};
 ghost use Rattle.compare.specs.Counts.{Counted};
-ghost use Rattle.compare.specs.Compare.{heldBy, Same};
+ghost use Rattle.compare.specs.Compare.{firstLeaf, heldBy, Same};
 use grid::Cell;
 use grid::Place;
 use pattern::Pattern;
@@ -26,7 +25,7 @@ pub fn is_held_by<A: Pattern, B: Pattern>(
     place: Place,
     holder: Holder,
 ) -> bool
-    ensures { λ r. ⌜ r ≡ heldBy holder (leafSet (A·Pattern .sets (now (first .entry))) 0) (leafSet (B·Pattern .sets (now (second .entry))) 0) place ⌝ }
+    ensures { λ r. ⌜ r ≡ heldBy holder (firstLeaf (A·Pattern .sets (now (first .entry)))) (firstLeaf (B·Pattern .sets (now (second .entry)))) place ⌝ }
 {
     let in_first = first.holds(0, place);
     let in_second = second.holds(0, place);
@@ -39,7 +38,7 @@ pub fn is_held_by<A: Pattern, B: Pattern>(
 
 // Counts by halving the cell down to single places.
 fn counted<A: Pattern, B: Pattern>(first: &A, second: &B, cell: Cell, holder: Holder) -> u64
-    ensures counted { λ r. ⌜ Counted (heldBy holder (leafSet (A·Pattern .sets (now (first .entry))) 0) (leafSet (B·Pattern .sets (now (second .entry))) 0)) cell r ⌝ }
+    ensures counted { λ r. ⌜ Counted (heldBy holder (firstLeaf (A·Pattern .sets (now (first .entry)))) (firstLeaf (B·Pattern .sets (now (second .entry))))) cell r ⌝ }
     ensures few { λ r. ⌜ r ≤ placesOf cell ⌝ }
 {
     let Some(halves) = cell.halve() else {
@@ -50,7 +49,7 @@ fn counted<A: Pattern, B: Pattern>(first: &A, second: &B, cell: Cell, holder: Ho
 
 // How many places of the cell are so held.
 pub fn count<A: Pattern, B: Pattern>(first: &A, second: &B, cell: Cell, holder: Holder) -> u64
-    ensures counted { λ r. ⌜ Counted (heldBy holder (leafSet (A·Pattern .sets (now (first .entry))) 0) (leafSet (B·Pattern .sets (now (second .entry))) 0)) cell r ⌝ }
+    ensures counted { λ r. ⌜ Counted (heldBy holder (firstLeaf (A·Pattern .sets (now (first .entry)))) (firstLeaf (B·Pattern .sets (now (second .entry))))) cell r ⌝ }
     ensures few { λ r. ⌜ r ≤ placesOf cell ⌝ }
 {
     counted(first, second, cell, holder)
@@ -58,14 +57,14 @@ pub fn count<A: Pattern, B: Pattern>(first: &A, second: &B, cell: Cell, holder: 
 
 // How many places of the cell only one of the two holds.
 fn differences<A: Pattern, B: Pattern>(first: &A, second: &B, cell: Cell) -> u64
-    ensures { λ r. ⌜ r ≡ 0 ↔ Same (leafSet (A·Pattern .sets (now (first .entry))) 0) (leafSet (B·Pattern .sets (now (second .entry))) 0) cell ⌝ }
+    ensures { λ r. ⌜ r ≡ 0 ↔ Same (firstLeaf (A·Pattern .sets (now (first .entry)))) (firstLeaf (B·Pattern .sets (now (second .entry)))) cell ⌝ }
 {
     count(first, second, cell, Holder::OnlyFirst) + count(first, second, cell, Holder::OnlySecond)
 }
 
 // Whether the two hold the same places of the cell.
 pub fn agrees<A: Pattern, B: Pattern>(first: &A, second: &B, cell: Cell) -> bool
-    ensures { λ r. ⌜ Decides r (Same (leafSet (A·Pattern .sets (now (first .entry))) 0) (leafSet (B·Pattern .sets (now (second .entry))) 0) cell) ⌝ }
+    ensures { λ r. ⌜ Decides r (Same (firstLeaf (A·Pattern .sets (now (first .entry)))) (firstLeaf (B·Pattern .sets (now (second .entry)))) cell) ⌝ }
 {
     differences(first, second, cell) == 0
 }

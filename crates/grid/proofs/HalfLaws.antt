@@ -13,7 +13,7 @@ use Rattle.grid.specs.declared.place.Place.{Place}
 use Rattle.grid.specs.declared.cell.Cell.{Cell}
 use Rattle.grid.specs.Axes.{Below, rank, total, product, put}
 use Rattle.grid.specs.Places.{below-true, at}
-use Rattle.grid.specs.Cells.{lo, hi, In, single, side, longer, longestOf, middleOf, both, halvesOf, halvings, halvingsOf, cellFrom}
+use Rattle.grid.specs.Cells.{lo, hi, In, single, side, longer, longestOf, middleOf, both, lowerHalf, upperHalf, halvesOf, halvings, halvingsOf}
 use Rattle.grid.specs.Laws.{Halved, Lone}
 use Rattle.grid.proofs.PlaceLaws.{below-false}
 use Rattle.grid.proofs.CellLaws.{cellFrom-is}
@@ -61,21 +61,25 @@ put-both : (a : Axis) (v : ℕ) (f : Axis → ℕ) (P : Axis → ℕ → Type 0)
 put-both a v f P here rest x =
     cond-both (eqb (rank a) (rank x)) v (f x) (P x) (λ e. subst (λ y. P y v) (same-axis a x e) here) (λ _. rest x)
 
--- the middle lies between the ends
+-- The ends that the code puts in at the middle. It has the axis as a, the middle as m, and the new place as q; the place
+-- is what the definition asks for, and lies on the right side of the cell's other end.
+module _ (c : Cell) (a : Axis) (m : ℕ) (q : Place) (axis : a ≡ longestOf c) (middle : m ≡ lo c a + side c a / 2) where
+  middle-is : m ≡ middleOf c
+  middle-is = middle ∙ ap (λ b. lo c b + side c b / 2) axis
 
-pub middle-high : (c : Cell) → single c ≡ false → Below (lo c) (put (longestOf c) (middleOf c - 1) (hi c))
-middle-high c many = put-both (longestOf c) (middleOf c - 1) (hi c) (λ x n. lo c x ≤ n) (omega (arith, two-places c many)) (c .ordered)
+  pub new-high : ((x : Axis) → at q x ≡ put a (m - 1) (hi c) x) → (x : Axis) → at q x ≡ put (longestOf c) (middleOf c - 1) (hi c) x
+  new-high told x = told x ∙ ap₂ (λ b n. put b (n - 1) (hi c) x) axis middle-is
 
-pub middle-low : (c : Cell) → single c ≡ false → Below (put (longestOf c) (middleOf c) (lo c)) (hi c)
-middle-low c many = put-both (longestOf c) (middleOf c) (lo c) (λ x n. n ≤ hi c x) (omega (arith, two-places c many)) (c .ordered)
+  pub new-low : ((x : Axis) → at q x ≡ put a m (lo c) x) → (x : Axis) → at q x ≡ put (longestOf c) (middleOf c) (lo c) x
+  new-low told x = told x ∙ ap₂ (λ b n. put b n (lo c) x) axis middle-is
 
--- the ends that are put in at the middle
+  pub lower-ordered : single c ≡ false → ((x : Axis) → at q x ≡ put a (m - 1) (hi c) x) → Below (lo c) (at q)
+  lower-ordered many told x =
+      rw (new-high told x) (put-both (longestOf c) (middleOf c - 1) (hi c) (λ x n. lo c x ≤ n) (omega (arith, two-places c many)) (c .ordered) x)
 
-pub new-high : (c : Cell) (a : Axis) (m : ℕ) (q : Place) → a ≡ longestOf c → m ≡ lo c a + side c a / 2 → ((x : Axis) → at q x ≡ put a (m - 1) (hi c) x) → (x : Axis) → at q x ≡ put (longestOf c) (middleOf c - 1) (hi c) x
-new-high c a m q axis middle told x = told x ∙ ap₂ (λ b n. put b (n - 1) (hi c) x) axis (middle ∙ ap (λ b. lo c b + side c b / 2) axis)
-
-pub new-low : (c : Cell) (a : Axis) (m : ℕ) (q : Place) → a ≡ longestOf c → m ≡ lo c a + side c a / 2 → ((x : Axis) → at q x ≡ put a m (lo c) x) → (x : Axis) → at q x ≡ put (longestOf c) (middleOf c) (lo c) x
-new-low c a m q axis middle told x = told x ∙ ap₂ (λ b n. put b n (lo c) x) axis (middle ∙ ap (λ b. lo c b + side c b / 2) axis)
+  pub upper-ordered : single c ≡ false → ((x : Axis) → at q x ≡ put a m (lo c) x) → Below (at q) (hi c)
+  upper-ordered many told x =
+      rw (new-low told x) (put-both (longestOf c) (middleOf c) (lo c) (λ x n. n ≤ hi c x) (omega (arith, two-places c many)) (c .ordered) x)
 
 -- a function of each number, with one of them put in
 
@@ -137,12 +141,12 @@ module _ (c l u : Cell) (a : Axis) (two : 2 ≤ side c a)
 pub halves-are : (c l u : Cell) → single c ≡ false → ((x : Axis) → lo l x ≡ lo c x) → ((x : Axis) → hi l x ≡ put (longestOf c) (middleOf c - 1) (hi c) x) → ((x : Axis) → lo u x ≡ put (longestOf c) (middleOf c) (lo c) x) → ((x : Axis) → hi u x ≡ hi c x) → (Some (l, u) ≡ halvesOf c) × Halved c l u
 halves-are c l u many lows low-told high-told highs = (
   ap₂ both (cellFrom-is (lo c) (put (longestOf c) (middleOf c - 1) (hi c)) l lows low-told) (cellFrom-is (put (longestOf c) (middleOf c) (lo c)) (hi c) u high-told highs)
-      ∙ sym (cond-false (single c) None (both (cellFrom (lo c) (put (longestOf c) (middleOf c - 1) (hi c))) (cellFrom (put (longestOf c) (middleOf c) (lo c)) (hi c))) many),
+      ∙ sym (cond-false (single c) None (both (lowerHalf c) (upperHalf c)) many),
   halved c l u (longestOf c) (two-places c many) lows low-told high-told highs (longest-most c),
 )
 
 pub no-halves : (c : Cell) → single c ≡ true → None ≡ halvesOf c
-no-halves c one = sym (cond-true (single c) None (both (cellFrom (lo c) (put (longestOf c) (middleOf c - 1) (hi c))) (cellFrom (put (longestOf c) (middleOf c) (lo c)) (hi c))) one)
+no-halves c one = sym (cond-true (single c) None (both (lowerHalf c) (upperHalf c)) one)
 
 pub lone : (c : Cell) → single c ≡ true → Lone c
 lone c one = record {

@@ -70,17 +70,18 @@ cellFrom low high = cell-if low high (endsFit low high) refl
 abbrev pub cutOf : Cell → Cell → Option Cell
 cutOf a b = cellFrom (λ x. max (lo a x) (lo b x)) (λ x. min (hi a x) (hi b x))
 
--- The hull of two cells goes from the lesser of the low ends to the greater of the high ends; with none it is the other.
+-- The hull of two cells goes from the lesser of the low ends to the greater of the high ends; where one is missing it is
+-- the other.
 abbrev pub hullOf : Option Cell → Option Cell → Option Cell
 hullOf None b = b
 hullOf (Some a) None = Some a
 hullOf (Some a) (Some b) = cellFrom (λ x. min (lo a x) (lo b x)) (λ x. max (hi a x) (hi b x))
 
--- The places of a cell on one axis.
+-- How many places a cell has on one axis.
 abbrev pub side : Cell → Axis → ℕ
 side c x = suc (hi c x) - lo c x
 
--- The places of a cell.
+-- How many places a cell has.
 abbrev pub placesOf : Cell → ℕ
 placesOf c = product (side c)
 
@@ -88,7 +89,7 @@ placesOf c = product (side c)
 abbrev pub longer : Cell → Axis → Axis → Axis
 longer c a b = cond (leb (side c b) (side c a)) a b
 
--- The axis of the longest side. On equal sides needle goes before course and course before track.
+-- The axis of the longest side; of equal ones the first in the order of the axes.
 abbrev pub longestOf : Cell → Axis
 longestOf c = longer c (longer c Needle Course) Track
 
@@ -102,9 +103,16 @@ both None b = None
 abbrev pub middleOf : Cell → ℕ
 middleOf c = lo c (longestOf c) + side c (longestOf c) / 2
 
--- The lower and the upper half of a cell, cut across its longest side; none for a single place.
+-- The lower half ends below the middle, and the upper half begins there; on the other axes both are as the cell.
+abbrev pub lowerHalf : Cell → Option Cell
+lowerHalf c = cellFrom (lo c) (put (longestOf c) (middleOf c - 1) (hi c))
+
+abbrev pub upperHalf : Cell → Option Cell
+upperHalf c = cellFrom (put (longestOf c) (middleOf c) (lo c)) (hi c)
+
+-- The two halves of a cell; none for a single place.
 abbrev pub halvesOf : Cell → Option (Cell × Cell)
-halvesOf c = cond (single c) None (both (cellFrom (lo c) (put (longestOf c) (middleOf c - 1) (hi c))) (cellFrom (put (longestOf c) (middleOf c) (lo c)) (hi c)))
+halvesOf c = cond (single c) None (both (lowerHalf c) (upperHalf c))
 
 -- The first number from k on whose power of two is at least s, of the next `tries`, or else the one after them.
 abbrev pub reach : ℕ → ℕ → ℕ → ℕ

@@ -185,7 +185,7 @@ impl Cell {
         common(*self, other)
     }
 
-    // The least cell that holds both, where they are there; with none it is the other.
+    // The smallest cell around both; where one is missing, the other.
     pub fn hull(one: Option<Cell>, other: Option<Cell>) -> Option<Cell>
         ensures is { λ r. ⌜ r ≡ hullOf one other ⌝ }
         ensures law { λ r. ⌜ HullLaw one other r ⌝ }

@@ -10,41 +10,6 @@ use std::test::*;
 
 type Ends = [u16; 6];
 
-fn bare(numbers: [u16; 3]) -> BarePlace {
-    BarePlace {
-        needle: numbers[0],
-        course: numbers[1],
-        track: numbers[2],
-    }
-}
-
-fn cell(ends: Ends) -> Result<Cell, Refusal> {
-    Cell::workspace(
-        bare([ends[0], ends[1], ends[2]]),
-        bare([ends[3], ends[4], ends[5]]),
-    )
-}
-
-fn ends(cell: Cell) -> Ends {
-    let low = cell.low();
-    let high = cell.high();
-    [
-        low.needle(),
-        low.course(),
-        low.track(),
-        high.needle(),
-        high.course(),
-        high.track(),
-    ]
-}
-
-fn possible(cell: Option<Cell>) -> Option<Ends> {
-    match cell {
-        Some(c) => Some(ends(c)),
-        None => None,
-    }
-}
-
 // Numbers and the refusal they get; 0 for none.
 const PLACES: [([u16; 3], u16); 8] = [
     ([0, 0, 0], 0),
@@ -275,4 +240,39 @@ fn cells_lie_in_cells() -> Result<(), Fail> {
         check_eq(b.holds(a.low()) && b.holds(a.high()), lies)?;
     }
     Ok(())
+}
+
+fn bare(numbers: [u16; 3]) -> BarePlace {
+    BarePlace {
+        needle: numbers[0],
+        course: numbers[1],
+        track: numbers[2],
+    }
+}
+
+fn cell(ends: Ends) -> Result<Cell, Refusal> {
+    Cell::workspace(
+        bare([ends[0], ends[1], ends[2]]),
+        bare([ends[3], ends[4], ends[5]]),
+    )
+}
+
+fn ends(cell: Cell) -> Ends {
+    let low = cell.low();
+    let high = cell.high();
+    [
+        low.needle(),
+        low.course(),
+        low.track(),
+        high.needle(),
+        high.course(),
+        high.track(),
+    ]
+}
+
+fn possible(cell: Option<Cell>) -> Option<Ends> {
+    match cell {
+        Some(c) => Some(ends(c)),
+        None => None,
+    }
 }

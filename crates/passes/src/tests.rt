@@ -9,14 +9,6 @@ use grid::RefusalDebug;
 use pattern::Pattern;
 use std::test::*;
 
-fn place(numbers: [u16; 3]) -> Result<Place, Refusal> {
-    Place::new(BarePlace {
-        needle: numbers[0],
-        course: numbers[1],
-        track: numbers[2],
-    })
-}
-
 // Course, track, from and to of a pass; needle, course and track of a place; whether the pass holds it.
 const PASSES: [([u16; 4], [u16; 3], bool); 16] = [
     ([5, 1, 10, 12], [10, 5, 1], true),
@@ -96,4 +88,12 @@ fn lists_have_one_leaf() -> Result<(), Fail> {
     let none = PassList::new(&[]);
     check_eq(none.leaves(), 1)?;
     check_eq(none.holds(0, place([0, 0, 0])?), false)
+}
+
+fn place(numbers: [u16; 3]) -> Result<Place, Refusal> {
+    Place::new(BarePlace {
+        needle: numbers[0],
+        course: numbers[1],
+        track: numbers[2],
+    })
 }

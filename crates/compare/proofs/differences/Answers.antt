@@ -1,6 +1,6 @@
 use native.Mathlib.Omega.{arith}
-use Rattle.pattern.specs.Sets.{leafSet}
 use Rattle.grid.proofs.Meanings.{places-most}
+use Rattle.compare.specs.Compare.{firstLeaf}
 use Rattle.compare.proofs.CountLaws.{same-from-none, none-in-first, none-in-second}
 use Rattle.compare.proofs.differences.Needs as need
 
@@ -9,8 +9,8 @@ add-result g c = record { fits = omega (arith, places-most (c .args .cell), c .c
 
 pub returns : need.returns
 returns g c =
-    let first = leafSet (g .A·Pattern .sets (c .args .first .now)) 0 in
-    let second = leafSet (g .B·Pattern .sets (c .args .second .now)) 0 in
+    let first = firstLeaf (g .A·Pattern .sets (c .args .first .now)) in
+    let second = firstLeaf (g .B·Pattern .sets (c .args .second .now)) in
     let cell = c .args .cell in
     let m = c .count .result in
     let n = c .count-2 .result in (

@@ -1,5 +1,5 @@
 use mathlib.Core.Path.{refl, sym}
-use Rattle.grid.proofs.HalfLaws.{middle-high, middle-low, new-high, new-low, halves-are, no-halves, lone}
+use Rattle.grid.proofs.HalfLaws.{new-high, new-low, lower-ordered, upper-ordered, halves-are, no-halves, lone}
 use Rattle.grid.proofs.halves.halves.Needs as need
 
 pub returns-then-is-one-place : need.returns-then-is-one-place
@@ -9,15 +9,11 @@ returns-then-is-one-place c =
 
 pub ghost-lower : need.ghost-lower
 ghost-lower c =
-    let s = c .args .cell in
-    let high = new-high s _ _ (c .moved .result) (c .longest-axis .ensures) (c .middle-of-middle .ensures) (c .moved .ensures) in
-    (λ x. rw (high x) (middle-high s (sym (c .if-is-one-place .ensures tt .is)) x), tt)
+    (lower-ordered (c .args .cell) _ _ (c .moved .result) (c .longest-axis .ensures) (c .middle-of-middle .ensures) (sym (c .if-is-one-place .ensures tt .is)) (c .moved .ensures), tt)
 
 pub ghost-upper : need.ghost-upper
 ghost-upper c =
-    let s = c .args .cell in
-    let low = new-low s _ _ (c .moved-2 .result) (c .longest-axis .ensures) (c .middle-of-middle .ensures) (c .moved-2 .ensures) in
-    (λ x. rw (low x) (middle-low s (sym (c .if-is-one-place .ensures tt .is)) x), tt)
+    (upper-ordered (c .args .cell) _ _ (c .moved-2 .result) (c .longest-axis .ensures) (c .middle-of-middle .ensures) (sym (c .if-is-one-place .ensures tt .is)) (c .moved-2 .ensures), tt)
 
 pub returns : need.returns
 returns c =
