@@ -1,6 +1,6 @@
 // Stitch charts as a pattern of one leaf.
 ghost use mathlib.Core.Path.{_≡_};
-ghost use Rattle.charts.specs.Charts.{bytesOf, chartSet, leavesOf};
+ghost use Rattle.charts.specs.Charts.{frame, frameOf, bytesOf, chartSet, leavesOf};
 use grid::Place;
 use pattern::Pattern;
 
@@ -16,7 +16,7 @@ pub struct Chart<'a> {
 
 impl<'a> Chart<'a> {
     pub fn new(left: u16, first: u16, width: u16, bytes: &'a [u8]) -> Chart<'a>
-        ensures frame { λ r. ⌜ (r .left ≡ left) × (r .first ≡ first) × (r .width ≡ width) ⌝ }
+        ensures frame { λ r. ⌜ frameOf r ≡ frame left first width ⌝ }
         ensures bytes { λ r. ⌜ bytesOf r ≡ now (bytes .entry) ⌝ }
     {
         Chart {

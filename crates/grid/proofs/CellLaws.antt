@@ -14,7 +14,7 @@ use Rattle.grid.specs.declared.cell.Cell.{Cell}
 use Rattle.grid.specs.Axes.{top, Below, below}
 use Rattle.grid.specs.Places.{at}
 use Rattle.grid.specs.Cells.{lo, hi, endsFit, cell-if, cellFrom}
-use Rattle.grid.proofs.PlaceLaws.{below-from, below-false, triple-is, place-ext}
+use Rattle.grid.proofs.PlaceLaws.{below-from, below-false, along-is, place-ext}
 
 -- Two cells with the same ends are one.
 pub cell-ext : (c d : Cell) → ((x : Axis) → lo c x ≡ lo d x) → ((x : Axis) → hi c x ≡ hi d x) → c ≡ d
@@ -28,7 +28,7 @@ cell-ext c d lows highs =
     }
 
 cell-if-is : (low high : Axis → ℕ) (c : Cell) → ((x : Axis) → lo c x ≡ low x) → ((x : Axis) → hi c x ≡ high x) → (b : Bool) (e : endsFit low high ≡ b) → b ≡ true → Some c ≡ cell-if low high b e
-cell-if-is low high c lows highs true e t = ap Some (cell-ext c _ (λ x. lows x ∙ sym (triple-is low x)) (λ x. highs x ∙ sym (triple-is high x)))
+cell-if-is low high c lows highs true e t = ap Some (cell-ext c _ (λ x. lows x ∙ sym (along-is low x)) (λ x. highs x ∙ sym (along-is high x)))
 cell-if-is low high c lows highs false e t = absurd (true≢false (sym t))
 
 -- the cell with these ends is the one that `cellFrom` finds
@@ -51,7 +51,7 @@ Found low high (Some c) = ((x : Axis) → lo c x ≡ low x) × ((x : Axis) → h
 Found low high None = (x : Axis) × ((high x < low x) ⊎ (top x < high x))
 
 cell-if-found : (low high : Axis → ℕ) (b : Bool) (e : endsFit low high ≡ b) → Found low high (cell-if low high b e)
-cell-if-found low high true e = (triple-is low, triple-is high)
+cell-if-found low high true e = (along-is low, along-is high)
 cell-if-found low high false e =
     ⊎-elim (λ h. let g = below-false low high h in (g .0, inl (g .1))) (λ h. let g = below-false high top h in (g .0, inr (g .1)))
     (and-cases (below low high) (below high top) e)

@@ -17,7 +17,7 @@ use Rattle.grid.specs.Axes.{top, Below, below}
 use Rattle.grid.specs.Places.{below-true, at, place-at}
 use Rattle.grid.specs.Cells.{lo, hi, In, inside, within, meet, single, side, cutOf, hullOf, placesOf, halvings, halvingsOf}
 use Rattle.grid.specs.Laws.{Part, CutLaw, HullLaw, WithinLaw}
-use Rattle.grid.proofs.PlaceLaws.{decides-below, place-ext, triple-is}
+use Rattle.grid.proofs.PlaceLaws.{decides-below, place-ext, along-is}
 use Rattle.grid.proofs.CellLaws.{Found, cellFrom-found}
 use Rattle.grid.proofs.Sizes.{total-mono, product-mono, halvings-mono}
 
@@ -44,7 +44,7 @@ first c d = place-at (λ x. max (lo c x) (lo d x)) (λ x. omega (arith, c .low .
 first-in : (c d : Cell) → Below (lo c) (hi d) → Below (lo d) (hi c) → In (first c d) c × In (first c d) d
 unfolding first
 first-in c d h k =
-    let is : (x : Axis) → at (first c d) x ≡ max (lo c x) (lo d x) = triple-is (λ x. max (lo c x) (lo d x)) in
+    let is : (x : Axis) → at (first c d) x ≡ max (lo c x) (lo d x) = along-is (λ x. max (lo c x) (lo d x)) in
     ((λ x. omega (arith, is x), λ x. omega (arith, is x, k x, c .ordered x)), (λ x. omega (arith, is x), λ x. omega (arith, is x, h x, d .ordered x)))
 
 pub decides-meet : (c d : Cell) → Decides (meet c d) ((p : Place) × (In p c × In p d))

@@ -14,7 +14,7 @@ use Rattle.std.specs.declared.option.Option.the-variants.{Some, None}
 use Rattle.grid.specs.declared.axis.Axis.{Axis}
 use Rattle.grid.specs.declared.axis.Axis.the-variants.{Needle, Course, Track}
 use Rattle.grid.specs.declared.place.Place.{Place}
-use Rattle.grid.specs.Axes.{top, triple, Below, below}
+use Rattle.grid.specs.Axes.{top, along, Below, below}
 use Rattle.grid.specs.Places.{below-true, at, place-if, placeFrom}
 
 pub below-from : (f g : Axis → ℕ) → Below f g → below f g ≡ true
@@ -37,10 +37,10 @@ below-fails f g Needle h = grind (arith, tells)
 below-fails f g Course h = grind (arith, tells)
 below-fails f g Track h = grind (arith, tells)
 
-pub triple-is : (f : Axis → ℕ) (x : Axis) → triple (f Needle) (f Course) (f Track) x ≡ f x
-triple-is f Needle = refl
-triple-is f Course = refl
-triple-is f Track = refl
+pub along-is : (f : Axis → ℕ) (x : Axis) → along (f Needle) (f Course) (f Track) x ≡ f x
+along-is f Needle = refl
+along-is f Course = refl
+along-is f Track = refl
 
 -- two places with the same numbers are one
 pub place-ext : (p q : Place) → ((x : Axis) → at p x ≡ at q x) → p ≡ q
@@ -48,11 +48,11 @@ place-ext p q same = λ i. record {
   needle = same Needle i;
   course = same Course i;
   track = same Track i;
-  «on_grid» = isProp→PathP (λ i. Below (triple (same Needle i) (same Course i) (same Track i)) top) (λ i. Π-prop (λ x. le-prop)) (p .«on_grid») (q .«on_grid») i;
+  «on_grid» = isProp→PathP (λ i. Below (along (same Needle i) (same Course i) (same Track i)) top) (λ i. Π-prop (λ x. le-prop)) (p .«on_grid») (q .«on_grid») i;
 }
 
 place-if-is : (f : Axis → ℕ) (p : Place) → ((x : Axis) → at p x ≡ f x) → (b : Bool) (e : below f top ≡ b) → b ≡ true → Some p ≡ place-if f b e
-place-if-is f p same true e t = ap Some (place-ext p _ (λ x. same x ∙ sym (triple-is f x)))
+place-if-is f p same true e t = ap Some (place-ext p _ (λ x. same x ∙ sym (along-is f x)))
 place-if-is f p same false e t = absurd (true≢false (sym t))
 
 place-if-none : (f : Axis → ℕ) (b : Bool) (e : below f top ≡ b) → b ≡ false → None ≡ place-if f b e

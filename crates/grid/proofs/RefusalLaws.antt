@@ -15,7 +15,7 @@ use Rattle.grid.specs.Axes.{top, below}
 use Rattle.grid.specs.Places.{at, place-if}
 use Rattle.grid.specs.Cells.{lo, hi, cellFrom}
 use Rattle.grid.specs.Refusals.{orRefuse, numbers, placeOf, workspaceOf}
-use Rattle.grid.proofs.PlaceLaws.{triple-is}
+use Rattle.grid.proofs.PlaceLaws.{along-is}
 use Rattle.grid.proofs.CellLaws.{Found, cellFrom-found}
 
 -- The numbers as they were taken for a place, or refused.
@@ -24,7 +24,7 @@ Taken f (Ok p) = (below f top ≡ true) × ((x : Axis) → at p x ≡ f x)
 Taken f (Err n) = (below f top ≡ false) × (n ≡ 3)
 
 place-if-taken : (f : Axis → ℕ) (b : Bool) (e : below f top ≡ b) → Taken f (orRefuse (place-if f b e) 3)
-place-if-taken f true e = (e, triple-is f)
+place-if-taken f true e = (e, along-is f)
 place-if-taken f false e = (e, refl)
 
 pub placeOf-taken : (b : BarePlace) → Taken (numbers b) (placeOf b)

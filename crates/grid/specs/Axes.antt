@@ -17,11 +17,11 @@ rank Needle = 0
 rank Course = 1
 rank Track = 2
 
--- A number for each axis, from three numbers.
-abbrev pub triple : ℕ → ℕ → ℕ → Axis → ℕ
-triple n c t Needle = n
-triple n c t Course = c
-triple n c t Track = t
+-- The numbers of a place, each along its axis.
+abbrev pub along : ℕ → ℕ → ℕ → Axis → ℕ
+along n c t Needle = n
+along n c t Course = c
+along n c t Track = t
 
 -- The numbers f are nowhere above the numbers g.
 abbrev pub Below : (Axis → ℕ) → (Axis → ℕ) → Type 0

@@ -12,7 +12,7 @@ use Rattle.grid.specs.declared.axis.Axis.the-variants.{Needle, Course, Track}
 use Rattle.grid.specs.declared.place.Place.{Place}
 use Rattle.grid.specs.declared.cell.Cell.{Cell}
 use Rattle.grid.specs.Axes.{top, Below, below, total, product, put}
-use Rattle.grid.specs.Places.{at, below-true, below-triple, place-at}
+use Rattle.grid.specs.Places.{at, below-true, below-along, place-at}
 
 -- The low and the high end of a cell on each axis.
 abbrev pub lo : Cell → Axis → ℕ
@@ -55,7 +55,7 @@ fit-high low high e = below-true high top (and-parts (below low high) (below hig
 
 -- The cell with the ends low and high, which make one.
 abbrev pub cell-at : (low high : Axis → ℕ) → Below low high → Below high top → Cell
-cell-at low high le on = record { low = place-at low (λ x. omega (arith, le x, on x)); high = place-at high on; ordered = below-triple low high le }
+cell-at low high le on = record { low = place-at low (λ x. omega (arith, le x, on x)); high = place-at high on; ordered = below-along low high le }
 
 -- The same by the test of the ends: the cell if it passes, none if it fails.
 abbrev pub cell-if : (low high : Axis → ℕ) (b : Bool) → endsFit low high ≡ b → Option Cell

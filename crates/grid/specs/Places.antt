@@ -9,11 +9,11 @@ use Rattle.std.specs.declared.option.Option.the-variants.{Some, None}
 use Rattle.grid.specs.declared.axis.Axis.{Axis}
 use Rattle.grid.specs.declared.axis.Axis.the-variants.{Needle, Course, Track}
 use Rattle.grid.specs.declared.place.Place.{Place}
-use Rattle.grid.specs.Axes.{top, triple, Below, below}
+use Rattle.grid.specs.Axes.{top, along, Below, below}
 
 -- The number of a place on each axis.
 abbrev pub at : Place → Axis → ℕ
-at p = triple (p .needle) (p .course) (p .track)
+at p = along (p .needle) (p .course) (p .track)
 
 -- A place and a cell carry the proof that they are on the grid, so what makes one has to hand it over. The next two
 -- lemmas serve that: a passed test tells the fact, and the fact holds of the numbers one by one.
@@ -24,12 +24,12 @@ below-true f g h =
     let r = and-parts (leb (f Course) (g Course)) (leb (f Track) (g Track)) (n .1) in
     elim [ Needle ↦ leb-true (f Needle) (g Needle) (n .0) | Course ↦ leb-true (f Course) (g Course) (r .0) | Track ↦ leb-true (f Track) (g Track) (r .1) ]
 
-pub below-triple : (f g : Axis → ℕ) → Below f g → Below (triple (f Needle) (f Course) (f Track)) (triple (g Needle) (g Course) (g Track))
-below-triple f g h Needle = h Needle
-below-triple f g h Course = h Course
-below-triple f g h Track = h Track
+pub below-along : (f g : Axis → ℕ) → Below f g → Below (along (f Needle) (f Course) (f Track)) (along (g Needle) (g Course) (g Track))
+below-along f g h Needle = h Needle
+below-along f g h Course = h Course
+below-along f g h Track = h Track
 
-pub on-grid : (f : Axis → ℕ) → Below f top → Below (triple (f Needle) (f Course) (f Track)) top
+pub on-grid : (f : Axis → ℕ) → Below f top → Below (along (f Needle) (f Course) (f Track)) top
 on-grid f h Needle = h Needle
 on-grid f h Course = h Course
 on-grid f h Track = h Track

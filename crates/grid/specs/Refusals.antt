@@ -11,7 +11,7 @@ use Rattle.grid.specs.declared.place.Place.{Place}
 use Rattle.grid.specs.declared.cell.Cell.{Cell}
 use Rattle.grid.specs.declared.refusal.Refusal.{Refusal}
 use Rattle.grid.specs.declared.refusal.Refusal.the-variants.{OffGrid, UpsideDown}
-use Rattle.grid.specs.Axes.{top, triple, below}
+use Rattle.grid.specs.Axes.{top, along, below}
 use Rattle.grid.specs.Places.{placeFrom}
 use Rattle.grid.specs.Cells.{cellFrom}
 
@@ -32,7 +32,7 @@ orRefuse None number = Err number
 
 -- The bare numbers, each on its axis.
 abbrev pub numbers : BarePlace → Axis → ℕ
-numbers b = triple (b .needle) (b .course) (b .track)
+numbers b = along (b .needle) (b .course) (b .track)
 
 -- A place, or a refusal: 3 if a number is off the grid.
 abbrev pub placeOf : BarePlace → Result Place ℕ
