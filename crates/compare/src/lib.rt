@@ -4,7 +4,7 @@ ghost use mathlib.Core.Path.{_≡_};
 ghost use Prim.Native.Nat.{_≤_};
 ghost use Rattle.std.specs.Orderings.{Decides};
 ghost use Rattle.grid.specs.Cells.{placesOf};
-ghost use Rattle.compare.specs.Counts.{Counted};
+ghost use Rattle.grid.specs.Counts.{Counted};
 ghost use Rattle.compare.specs.Compare.{firstLeaf, heldBy, Same};
 use grid::Cell;
 use grid::Place;

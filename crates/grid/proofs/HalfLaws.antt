@@ -33,7 +33,7 @@ longest-most c Needle = omega (arith, longer-first c Needle Course, longer-first
 longest-most c Course = omega (arith, longer-second c Needle Course, longer-first c (longer c Needle Course) Track)
 longest-most c Track = longer-second c (longer c Needle Course) Track
 
-two-places : (c : Cell) → single c ≡ false → 2 ≤ side c (longestOf c)
+pub two-places : (c : Cell) → single c ≡ false → 2 ≤ side c (longestOf c)
 two-places c many = let x = below-false (hi c) (lo c) many in omega (arith, x .1, longest-most c (x .0))
 
 -- one number put in place of another
@@ -57,7 +57,7 @@ put-same Needle v f = refl
 put-same Course v f = refl
 put-same Track v f = refl
 
-put-both : (a : Axis) (v : ℕ) (f : Axis → ℕ) (P : Axis → ℕ → Type 0) → P a v → ((x : Axis) → P x (f x)) → (x : Axis) → P x (put a v f x)
+pub put-both : (a : Axis) (v : ℕ) (f : Axis → ℕ) (P : Axis → ℕ → Type 0) → P a v → ((x : Axis) → P x (f x)) → (x : Axis) → P x (put a v f x)
 put-both a v f P here rest x =
     cond-both (eqb (rank a) (rank x)) v (f x) (P x) (λ e. subst (λ y. P y v) (same-axis a x e) here) (λ _. rest x)
 

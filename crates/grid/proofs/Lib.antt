@@ -4,3 +4,5 @@ pub mod Sizes
 pub mod Meanings
 pub mod RefusalLaws
 pub mod HalfLaws
+pub mod CountLaws
+pub mod PlaceCount

@@ -5,6 +5,7 @@ ghost use Rattle.grid.specs.declared.axis.Axis.{Axis};
 ghost use Rattle.grid.specs.Axes.{top, put};
 ghost use Rattle.grid.specs.Places.{at};
 ghost use Rattle.grid.specs.Cells.{lo, side, placesOf, longer, longestOf, halvings, halvingsOf, halvesOf};
+ghost use Rattle.grid.specs.Counts.{everywhere, Counted};
 ghost use Rattle.grid.specs.Laws.{Least, HalvesLaw};
 use crate::axis::Axis;
 use crate::cell::Cell;
@@ -93,6 +94,7 @@ fn halves(cell: Cell) -> Option<(Cell, Cell)>
 fn place_count(cell: Cell) -> u64
     ensures is { λ r. ⌜ r ≡ placesOf cell ⌝ }
     ensures most { λ r. ⌜ r ≤ 2 ^ 31 ⌝ }
+    ensures counted { λ r. ⌜ Counted everywhere cell r ⌝ }
 {
     side_of(cell, Axis::Needle) as u64
         * side_of(cell, Axis::Course) as u64
@@ -129,6 +131,7 @@ impl Cell {
     pub fn places(&self) -> u64
         ensures is { λ r. ⌜ r ≡ placesOf (now (self .entry)) ⌝ }
         ensures most { λ r. ⌜ r ≤ 2 ^ 31 ⌝ }
+        ensures counted { λ r. ⌜ Counted everywhere (now (self .entry)) r ⌝ }
     {
         place_count(*self)
     }

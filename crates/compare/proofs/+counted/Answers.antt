@@ -1,6 +1,6 @@
 use native.Mathlib.Omega.{arith}
 use Rattle.grid.proofs.Meanings.{places-most}
-use Rattle.compare.proofs.CountLaws.{count-single, single-few, count-halves}
+use Rattle.grid.proofs.CountLaws.{count-single, single-few, count-halves}
 use Rattle.compare.proofs.+counted.Needs as need
 
 pub returns-in-rest : need.returns-in-rest

@@ -1,7 +1,7 @@
 use native.Mathlib.Omega.{arith}
 use Rattle.grid.proofs.Meanings.{places-most}
 use Rattle.compare.specs.Compare.{firstLeaf}
-use Rattle.compare.proofs.CountLaws.{same-from-none, none-in-first, none-in-second}
+use Rattle.compare.proofs.Sameness.{same-from-none, none-in-first, none-in-second}
 use Rattle.compare.proofs.differences.Needs as need
 
 pub add-result : need.add-result

@@ -1,16 +1,13 @@
-use mathlib.Core.List.{[], _∷_, _++_, map}
-use mathlib.Core.Path.{sym, ap, ap₂, _∙_}
-use Rattle.std.proofs.shelf.Lists.{map-more, take-all}
+use mathlib.Core.List.{map}
+use mathlib.Core.Path.{ap, _∙_}
+use Rattle.std.proofs.shelf.Lists.{take-all}
 use Rattle.agree.specs.Panel.{passOf}
+use Rattle.agree.proofs.PanelLaws.{one-pass}
 use Rattle.agree.proofs.panel.program.Needs as need
 
 pub loop-run-again : need.loop-run-again
 loop-run-again c =
-    let runs = c .args .runs .now in
-    let i = c .loop-run .run-index in
-    c .in-Continue-push .ensures tt .items
-    ∙ ap₂ (λ l p. l ++ p ∷ []) (c .loop-run .inv) (c .pass .ensures)
-    ∙ sym (map-more passOf runs i [] (c .loop-run-test .taken))
+    one-pass (c .args .runs .now) (c .loop-run .run-index) (c .loop-run-test .taken) _ _ (c .pass .result) (c .loop-run .inv) (c .pass .ensures) (c .in-Continue-push .ensures tt .items)
 
 pub returns : need.returns
 returns c = c .loop-run .inv ∙ ap (map passOf) (take-all _ (c .args .runs .now) (c .loop-run-test .left))

@@ -1,23 +1,20 @@
-use mathlib.Core.List.{[], _∷_, _++_}
-use mathlib.Core.Path.{sym, ap, ap₂, _∙_}
+use mathlib.Core.Path.{ap, _∙_}
 use Rattle.std.proofs.shelf.Lists.{take-all}
 use Rattle.std.specs.Joined.{joined}
 use Rattle.agree.specs.Panel.{stitchOf}
-use Rattle.agree.proofs.Pictures.{line-end, one-stitch}
+use Rattle.agree.proofs.PanelLaws.{line-end, one-stitch}
 use Rattle.agree.proofs.panel.stitches.Needs as need
 
 pub loop-mark-again-then-mark-eq10 : need.loop-mark-again-then-mark-eq10
 loop-mark-again-then-mark-eq10 c = (
   c .loop-mark .inv .0,
-  c .loop-mark .inv .1 ∙ sym (line-end (c .as-bytes-mark-items .result .now) (c .loop-mark .mark-index) (c .loop-mark-test .taken) (c .if-mark-eq10 .taken)),
+  c .loop-mark .inv .1 ∙ line-end (c .as-bytes-mark-items .result .now) (c .loop-mark .mark-index) (c .loop-mark-test .taken) (c .if-mark-eq10 .taken),
 )
 
 pub loop-mark-again : need.loop-mark-again
 loop-mark-again c = (
   c .loop-mark .inv .0,
-  c .in-Continue-push .ensures tt .items
-      ∙ ap₂ (λ l y. l ++ y ∷ []) (c .loop-mark .inv .1) (c .yarn .ensures)
-      ∙ sym (one-stitch (c .as-bytes-mark-items .result .now) (c .loop-mark .mark-index) (c .loop-mark-test .taken) (c .if-mark-eq10 .left)),
+  one-stitch (c .as-bytes-mark-items .result .now) (c .loop-mark .mark-index) (c .loop-mark-test .taken) _ _ (c .yarn .result) (c .if-mark-eq10 .left) (c .loop-mark .inv .1) (c .yarn .ensures) (c .in-Continue-push .ensures tt .items),
 )
 
 pub returns : need.returns

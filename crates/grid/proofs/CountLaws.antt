@@ -1,6 +1,6 @@
 -- Counting by halves. Assumes nothing.
-use mathlib.Core.Path.{_≡_, refl, sym, ap, ap₂, subst, _∙_}
-use mathlib.Core.Bool.{Bool, true, false, not, _&&_}
+use mathlib.Core.Path.{_≡_, refl, sym, ap, ap₂, _∙_}
+use mathlib.Core.Bool.{Bool, true, false}
 use mathlib.Core.List.{List, [], _∷_, _++_}
 use mathlib.Core.Logic.{_⊎_, inl, inr, ⊎-elim}
 use Prim.Native.Nat.{ℕ, _+_, _≤_}
@@ -9,15 +9,12 @@ use lib.Dec.{lit≤}
 use lib.ListN.{length, length-append}
 use mir.Val.{boolByte}
 use Rattle.std.proofs.shelf.Tests.{both-ways, cases-bool}
 use Rattle.grid.specs.declared.cell.Cell.{Cell}
 use Rattle.grid.specs.declared.place.Place.{Place}
 use Rattle.grid.specs.Cells.{In}
 use Rattle.grid.specs.Laws.{Halved, Lone}
 use Rattle.grid.proofs.Meanings.{low-in}
-use Rattle.pattern.specs.Sets.{PlaceSet}
-use Rattle.compare.specs.Counts.{Among, Once, Lists, Counted}
-use Rattle.compare.specs.Compare.{heldBy, Same}
-use Rattle.compare.specs.declared.Holder.the-variants.{OnlyFirst, OnlySecond}
+use Rattle.grid.specs.Counts.{Among, Once, Lists, Counted}
 
 -- lists put one behind the other
 
@@ -46,7 +43,7 @@ pub single-few : (b : Bool) → boolByte b ≤ 1
 single-few true = lit≤ tt
 single-few false = lit≤ tt
 
-module _ (set : PlaceSet) (c : Cell) where
+module _ (set : Place → Bool) (c : Cell) where
   -- a single place lies in the set or not
 
   count-one : Lone c → set (c .low) ≡ true → Counted set c 1
@@ -106,34 +103,3 @@ module _ (set : PlaceSet) (c : Cell) where
       go : (ps : List Place) → length ps ≡ n → Lists set c ps → n ≡ 0
       go [] e l = sym e
       go (x ∷ ps) e l = let i = l .just x .0 (inl refl) in absurd (both-ways (set x) (nowhere x (i .0)) (i .1))
-
--- two sets are the same in a cell if neither has a place there that the other lacks
-
-lacks : (a b : Bool) → (a && not b) ≡ false → (not a && b) ≡ false → a ≡ b
-lacks true true e f = refl
-lacks true false e f = e
-lacks false true e f = sym f
-lacks false false e f = refl
-
-lacks-first : (a b : Bool) → a ≡ b → (a && not b) ≡ false
-lacks-first true true e = refl
-lacks-first true false e = e
-lacks-first false b e = refl
-
-lacks-second : (a b : Bool) → a ≡ b → (not a && b) ≡ false
-lacks-second true b e = refl
-lacks-second false true e = sym e
-lacks-second false false e = refl
-
-module _ (first second : PlaceSet) (c : Cell) where
-  pub same-from-none : (m n : ℕ) → Counted (heldBy OnlyFirst first second) c m → Counted (heldBy OnlySecond first second) c n → m ≡ 0 → n ≡ 0 → Same first second c
-  same-from-none m n a b e f p i =
-      lacks (first p) (second p)
-      (none-counted (heldBy OnlyFirst first second) c (subst (Counted (heldBy OnlyFirst first second) c) e a) p i)
-      (none-counted (heldBy OnlySecond first second) c (subst (Counted (heldBy OnlySecond first second) c) f b) p i)
-
-  pub none-in-first : (m : ℕ) → Counted (heldBy OnlyFirst first second) c m → Same first second c → m ≡ 0
-  none-in-first m a same = some-counted (heldBy OnlyFirst first second) c m a (λ p i. lacks-first (first p) (second p) (same p i))
-
-  pub none-in-second : (n : ℕ) → Counted (heldBy OnlySecond first second) c n → Same first second c → n ≡ 0
-  none-in-second n b same = some-counted (heldBy OnlySecond first second) c n b (λ p i. lacks-second (first p) (second p) (same p i))
