@@ -15,8 +15,8 @@ use Rattle.grid.specs.declared.cell.Cell.{Cell}
 use Rattle.grid.specs.declared.axis.Axis.the-variants.{Needle, Course, Track}
 use Rattle.grid.specs.Axes.{top, Below, below}
 use Rattle.grid.specs.Places.{below-true, at, place-at}
-use Rattle.grid.specs.Cells.{lo, hi, In, inside, within, meet, single, side, cutOf, hullOf, placesOf, halvings, halvingsOf}
-use Rattle.grid.specs.Laws.{Part, CutLaw, HullLaw, WithinLaw}
+use Rattle.grid.specs.Cells.{lo, hi, In, inside, within, meet, single, side, gridCell, boxOf, cutOf, hullOf, placesOf, halvings, halvingsOf}
+use Rattle.grid.specs.Laws.{Part, BoxLaw, CutLaw, HullLaw, WithinLaw}
 use Rattle.grid.proofs.PlaceLaws.{decides-below, place-ext, along-is}
 use Rattle.grid.proofs.CellLaws.{Found, cellFrom-found}
 use Rattle.grid.proofs.Sizes.{total-mono, product-mono, halvings-mono}
@@ -60,6 +60,19 @@ decides-single c =
     (λ h p i. place-ext p (c .low) (λ x. omega (arith, h x, i .0 x, i .1 x)))
     (λ one x. omega (arith, ap (λ p. at p x) (one (c .high) (high-in c))))
     (decides-below (hi c) (lo c))
+
+pub in-grid : (p : Place) → In p gridCell
+in-grid p = (λ x. omega (arith, along-is (λ x. 0) x), λ x. omega (arith, p .«on_grid» x, along-is top x))
+
+box-found : (low high : Axis → ℕ) (r : Option Cell) → Found low (λ x. min (high x) (top x)) r → BoxLaw low high r
+box-found low high (Some c) f p = (
+  λ i. (λ x. omega (arith, f .0 x, i .0 x), λ x. omega (arith, f .1 x, i .1 x)),
+  λ i. (λ x. omega (arith, f .0 x, i .0 x), λ x. omega (arith, f .1 x, i .1 x, p .«on_grid» x)),
+)
+box-found low high None f p = (λ h. absurd h, λ i. omega (arith, f .1, i .0 (f .0), i .1 (f .0), p .«on_grid» (f .0)))
+
+pub box-law : (low high : Axis → ℕ) → BoxLaw low high (boxOf low high)
+box-law low high = box-found low high (boxOf low high) (cellFrom-found low (λ x. min (high x) (top x)))
 
 cut-found : (a b : Cell) (r : Option Cell) → Found (λ x. max (lo a x) (lo b x)) (λ x. min (hi a x) (hi b x)) r → CutLaw a b r
 cut-found a b (Some c) f = record {

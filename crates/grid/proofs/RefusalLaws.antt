@@ -1,7 +1,8 @@
 -- What is known of bare numbers once they were taken or refused. Assumes nothing.
 use mathlib.Core.Path.{_≡_, refl, sym, ap, ap₂, subst, fun-ext, _∙_}
 use mathlib.Core.Bool.{Bool, true, false, cond, _&&_}
-use Prim.Native.Nat.{ℕ}
+use Prim.Native.Nat.{ℕ, min}
+use native.Mathlib.Omega.{arith}
 use Rattle.std.proofs.shelf.Tests.{and-from, and-left, and-right, cond-true, cond-false}
 use Rattle.std.specs.declared.option.Option.{Option}
 use Rattle.std.specs.declared.option.Option.the-variants.{Some, None}
@@ -13,10 +14,10 @@ use Rattle.grid.specs.declared.place.Place.{Place}
 use Rattle.grid.specs.declared.cell.Cell.{Cell}
 use Rattle.grid.specs.Axes.{top, below}
 use Rattle.grid.specs.Places.{at, place-if}
-use Rattle.grid.specs.Cells.{lo, hi, cellFrom}
+use Rattle.grid.specs.Cells.{lo, hi, cellFrom, boxOf}
 use Rattle.grid.specs.Refusals.{orRefuse, numbers, placeOf, workspaceOf}
-use Rattle.grid.proofs.PlaceLaws.{along-is}
-use Rattle.grid.proofs.CellLaws.{Found, cellFrom-found}
+use Rattle.grid.proofs.PlaceLaws.{below-false, below-fails, along-is}
+use Rattle.grid.proofs.CellLaws.{Found, cellFrom-none, cellFrom-found}
 
 -- The numbers as they were taken for a place, or refused.
 abbrev pub Taken : (Axis → ℕ) → Result Place ℕ → Type 0
@@ -29,6 +30,19 @@ place-if-taken f false e = (e, refl)
 
 pub placeOf-taken : (b : BarePlace) → Taken (numbers b) (placeOf b)
 placeOf-taken b = place-if-taken (numbers b) (below (numbers b) top) refl
+
+-- the low end was taken, the high one brought back to the grid: what is between them is the box
+pub box-between : (low high : BarePlace) (p q : Place) → Ok p ≡ placeOf low → ((x : Axis) → at q x ≡ min (numbers high x) (top x)) → cellFrom (at p) (at q) ≡ boxOf (numbers low) (numbers high)
+box-between low high p q e clipped =
+    let l : Taken (numbers low) (Ok p) = subst (Taken (numbers low)) (sym e) (placeOf-taken low) in
+    ap₂ cellFrom (fun-ext (l .1)) (fun-ext clipped)
+
+-- the low end was refused: the box is empty
+pub box-none : (low high : BarePlace) (n : ℕ) → Err n ≡ placeOf low → None ≡ boxOf (numbers low) (numbers high)
+box-none low high n e =
+    let l : Taken (numbers low) (Err n) = subst (Taken (numbers low)) (sym e) (placeOf-taken low) in
+    let x = below-false (numbers low) top (l .0) in
+    cellFrom-none (numbers low) (λ x. min (numbers high x) (top x)) (below-fails (numbers low) (λ x. min (numbers high x) (top x)) (x .0) (omega (arith, x .1)))
 
 -- both ends were taken: what is between them is the workspace, or 4
 pub workspace-between : (low high : BarePlace) (p q : Place) → Ok p ≡ placeOf low → Ok q ≡ placeOf high → orRefuse (cellFrom (at p) (at q)) 4 ≡ workspaceOf low high

@@ -66,6 +66,14 @@ cell-if low high false e = None
 abbrev pub cellFrom : (Axis → ℕ) → (Axis → ℕ) → Option Cell
 cellFrom low high = cell-if low high (endsFit low high) refl
 
+-- The whole grid.
+abbrev pub gridCell : Cell
+gridCell = cell-at (λ x. 0) top (λ x. omega arith) (λ x. omega arith)
+
+-- The box from the ends low to the ends high, cut by the grid: a cell, or none if the grid has no place there.
+abbrev pub boxOf : (Axis → ℕ) → (Axis → ℕ) → Option Cell
+boxOf low high = cellFrom low (λ x. min (high x) (top x))
+
 -- The cut of two cells goes from the greater of the low ends to the lesser of the high ends, if that is a cell.
 abbrev pub cutOf : Cell → Cell → Option Cell
 cutOf a b = cellFrom (λ x. max (lo a x) (lo b x)) (λ x. min (hi a x) (hi b x))

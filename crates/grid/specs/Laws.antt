@@ -9,6 +9,8 @@ use Rattle.std.specs.declared.option.Option.the-variants.{Some, None}
 use Rattle.grid.specs.declared.axis.Axis.{Axis}
 use Rattle.grid.specs.declared.place.Place.{Place}
 use Rattle.grid.specs.declared.cell.Cell.{Cell}
+use Rattle.grid.specs.Axes.{Below}
+use Rattle.grid.specs.Places.{at}
 use Rattle.grid.specs.Cells.{In, side, placesOf, longestOf, halvingsOf}
 
 -- The possible cell holds the place; none holds no place.
@@ -19,6 +21,10 @@ Holds None p = ⊥
 -- Every place of the first possible cell lies in the second.
 abbrev pub Part : Option Cell → Option Cell → Type 0
 Part a b = (p : Place) → Holds a p → Holds b p
+
+-- A box has just the places that are nowhere below its low and nowhere above its high ends.
+abbrev pub BoxLaw : (Axis → ℕ) → (Axis → ℕ) → Option Cell → Type 0
+BoxLaw low high r = (p : Place) → Holds r p ↔ (Below low (at p) × Below (at p) high)
 
 -- A cut has just the places that lie in both cells; there is none exactly if no place lies in both.
 pub record CutLaw (a b : Cell) (r : Option Cell) : Type 0 where

@@ -4,14 +4,17 @@ ghost use mathlib.Core.Bool.{_&&_};
 ghost use mathlib.Core.Path.{_≡_};
 ghost use Rattle.std.specs.Orderings.{Decides};
 ghost use Rattle.grid.specs.declared.axis.Axis.{Axis};
-ghost use Rattle.grid.specs.Axes.{below};
+ghost use Rattle.grid.specs.Axes.{top, below};
 ghost use Rattle.grid.specs.Places.{at};
-ghost use Rattle.grid.specs.Cells.{In, inside, within, meet, single, cellFrom, cutOf, hullOf};
-ghost use Rattle.grid.specs.Laws.{CutLaw, HullLaw, WithinLaw};
-ghost use Rattle.grid.specs.Refusals.{numbered, workspaceOf};
+ghost use Rattle.grid.specs.Cells.{In, inside, within, meet, single, cellFrom, gridCell, boxOf, cutOf, hullOf};
+ghost use Rattle.grid.specs.Laws.{BoxLaw, CutLaw, HullLaw, WithinLaw};
+ghost use Rattle.grid.specs.Refusals.{numbers, numbered, workspaceOf};
 use crate::bare::BarePlace;
 use crate::cell::Cell;
 use crate::place::Place;
+use crate::places::LAST_COURSE;
+use crate::places::LAST_NEEDLE;
+use crate::places::LAST_TRACK;
 use crate::refusal::Refusal;
 
 // On no axis is the first place above the second.
@@ -72,6 +75,45 @@ fn checked(low: BarePlace, high: BarePlace) -> Result<Cell, Refusal>
     }
 }
 
+// The numbers, with those past the grid's last brought back to it.
+fn clipped(bare: BarePlace) -> Place
+    ensures { λ r. ⌜ ((x : Axis) → at r x ≡ min (numbers bare x) (top x)) ⌝ }
+{
+    Place {
+        needle: bare.needle.min(LAST_NEEDLE),
+        course: bare.course.min(LAST_COURSE),
+        track: bare.track.min(LAST_TRACK),
+    }
+}
+
+fn boxed(low: BarePlace, high: BarePlace) -> Option<Cell>
+    ensures is { λ r. ⌜ r ≡ boxOf (numbers low) (numbers high) ⌝ }
+    ensures law { λ r. ⌜ BoxLaw (numbers low) (numbers high) r ⌝ }
+{
+    let Ok(low) = Place::new(low) else {
+        return None;
+    };
+    between(low, clipped(high))
+}
+
+fn whole() -> Cell
+    ensures is { λ r. ⌜ r ≡ gridCell ⌝ }
+    ensures law { λ r. ⌜ ((p : Place) → In p r) ⌝ }
+{
+    Cell {
+        low: Place {
+            needle: 0,
+            course: 0,
+            track: 0,
+        },
+        high: Place {
+            needle: LAST_NEEDLE,
+            course: LAST_COURSE,
+            track: LAST_TRACK,
+        },
+    }
+}
+
 fn is_inside(place: Place, cell: Cell) -> bool
     ensures is { λ r. ⌜ r ≡ inside place cell ⌝ }
     ensures law { λ r. ⌜ Decides r (In place cell) ⌝ }
@@ -129,6 +171,22 @@ impl Cell {
         ensures { λ r. ⌜ numbered r ≡ workspaceOf low high ⌝ }
     {
         checked(low, high)
+    }
+
+    // The whole grid.
+    pub fn grid() -> Cell
+        ensures is { λ r. ⌜ r ≡ gridCell ⌝ }
+        ensures law { λ r. ⌜ ((p : Place) → In p r) ⌝ }
+    {
+        whole()
+    }
+
+    // The cell of the grid's places from one bare place to another, if it has any there.
+    pub fn from_box(low: BarePlace, high: BarePlace) -> Option<Cell>
+        ensures is { λ r. ⌜ r ≡ boxOf (numbers low) (numbers high) ⌝ }
+        ensures law { λ r. ⌜ BoxLaw (numbers low) (numbers high) r ⌝ }
+    {
+        boxed(low, high)
     }
 
     // The place with the low end on every axis.

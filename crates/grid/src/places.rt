@@ -8,9 +8,11 @@ use crate::bare::BarePlace;
 use crate::place::Place;
 use crate::refusal::Refusal;
 
-const LAST_NEEDLE: u16 = 4095;
+pub(crate) const LAST_NEEDLE: u16 = 4095;
 
-const LAST_TRACK: u16 = 7;
+pub(crate) const LAST_COURSE: u16 = 65535;
+
+pub(crate) const LAST_TRACK: u16 = 7;
 
 impl Place {
     // The place with these numbers; refused if one is off the grid. Every course of 16 bits is on it.

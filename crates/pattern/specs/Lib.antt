@@ -1,1 +1,3 @@
 pub mod Sets
+pub mod Relations
+pub mod Banks
