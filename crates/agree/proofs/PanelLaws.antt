@@ -7,7 +7,7 @@ use lib.ListN.{length, getD, take}
 use Rattle.std.proofs.shelf.Lists.{append-nil, joined-more, map-more, take-more}
 use Rattle.std.proofs.shelf.Tests.{cond-false, ne-eqb}
 use Rattle.std.specs.Joined.{joined}
-use Rattle.passes.specs.declared.Pass.{Pass}
+use Rattle.passes.specs.declared.pass.Pass.{Pass}
 use Rattle.agree.specs.Panel.{yarnOf, stitchOf, passOf}
 
 module _ (marks : List ℕ) (i : ℕ) (within : i < length marks) where

@@ -4,7 +4,7 @@ use mathlib.Core.List.{List, [], _∷_}
 use Prim.Native.Nat.{ℕ, _-_}
 use lib.Dec.{leb, eqb}
 use lib.ListN.{getD}
-use Rattle.passes.specs.declared.Pass.{Pass}
+use Rattle.passes.specs.declared.pass.Pass.{Pass}
 
 -- The yarn that a mark of the picture names: the digits 0 to 7 (codes 48 to 55) are yarns, and any other mark is no
 -- stitch.

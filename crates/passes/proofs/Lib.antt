@@ -1,1 +1,2 @@
-pub mod Search
+pub mod SearchLaws
+pub mod PassLaws

@@ -1,27 +1,45 @@
--- The places that carriage passes knit.
-use mathlib.Core.Bool.{false, _&&_, _||_}
+-- The places that carriage passes knit, the hull of these, and how they lie to a cell.
+use mathlib.Core.Bool.{Bool, false, _&&_, _||_}
 use mathlib.Core.List.{List, [], _∷_}
-use denote.Ref.{now}
+use Rattle.std.specs.declared.option.Option.{Option}
+use Rattle.std.specs.declared.option.Option.the-variants.{None}
 use lib.Dec.{eqb, leb}
 use Rattle.grid.specs.declared.axis.Axis.the-variants.{Needle, Course, Track}
+use Rattle.grid.specs.declared.cell.Cell.{Cell}
+use Rattle.grid.specs.Axes.{along}
 use Rattle.grid.specs.Places.{at}
+use Rattle.grid.specs.Cells.{boxOf, hullOf}
+use Rattle.pattern.specs.declared.relation.Relation.{Relation}
 use Rattle.pattern.specs.Sets.{PlaceSet}
-use Rattle.passes.specs.declared.Pass.{Pass}
-use Rattle.passes.specs.declared.PassList.{PassList}
+use Rattle.pattern.specs.Relations.{boxHolds, boxMeets, boxed}
+use Rattle.passes.specs.declared.pass.Pass.{Pass}
 
 -- A pass holds the places of its course and track from the one needle to the other, both included.
 abbrev pub passSet : Pass → PlaceSet
 passSet s p = eqb (at p Course) (s .course) && (eqb (at p Track) (s .track) && (leb (s .from) (at p Needle) && leb (at p Needle) (s .to)))
 
+-- The test passes for some pass of the list.
+abbrev pub some : (Pass → Bool) → List Pass → Bool
+some test [] = false
+some test (s ∷ rest) = test s || some test rest
+
 -- A pass list holds the places that some pass of it holds.
 abbrev pub passesSet : List Pass → PlaceSet
-passesSet [] p = false
-passesSet (s ∷ rest) p = passSet s p || passesSet rest p
+passesSet passes p = some (λ s. passSet s p) passes
 
--- The passes that a list was made from.
-abbrev pub listed : PassList → List Pass
-listed l = now (l .passes)
+-- A pass cut by the grid: a cell, or none.
+abbrev pub passBox : Pass → Option Cell
+passBox s = boxOf (along (s .from) (s .course) (s .track)) (along (s .to) (s .course) (s .track))
 
--- The one leaf of a pass list.
-abbrev pub leavesOf : PassList → List PlaceSet
-leavesOf l = passesSet (listed l) ∷ []
+-- The hull of a possible cell and of the passes, each cut by the grid.
+abbrev pub hullWith : Option Cell → List Pass → Option Cell
+hullWith b [] = b
+hullWith b (s ∷ rest) = hullWith (hullOf b (passBox s)) rest
+
+-- The bound of a pass list: the hull of its passes.
+abbrev pub passesBound : List Pass → Option Cell
+passesBound = hullWith None
+
+-- The relation of a pass list: Inside if one pass holds all of the cell, Outside if no pass meets it, else Mixed.
+abbrev pub passesRelation : List Pass → Cell → Relation
+passesRelation passes c = boxed (some (λ s. boxHolds (passBox s) c) passes) (some (λ s. boxMeets (passBox s) c) passes)

@@ -1,3 +1,4 @@
 pub mod ExactLaws
 pub mod BoxLaws
 pub mod BankLaws
+pub mod Borrowed

@@ -60,7 +60,19 @@ abbrev pub boxSet : Option Cell → PlaceSet
 boxSet (Some b) p = inside p b
 boxSet None p = false
 
+-- The possible cell holds all of the other, or meets it.
+abbrev pub boxHolds : Option Cell → Cell → Bool
+boxHolds (Some b) c = within c b
+boxHolds None c = false
+
+abbrev pub boxMeets : Option Cell → Cell → Bool
+boxMeets (Some b) c = meet c b
+boxMeets None c = false
+
+-- The relation of boxes to a cell, by whether one holds all of it and whether one meets it.
+abbrev pub boxed : Bool → Bool → Relation
+boxed holds meets = cond holds Inside (cond meets Mixed Outside)
+
 -- How a possible cell lies to a cell: Inside if it holds all of it, Outside if the two do not meet, else Mixed.
 abbrev pub boxRelation : Option Cell → Cell → Relation
-boxRelation None c = Outside
-boxRelation (Some b) c = cond (within c b) Inside (cond (meet c b) Mixed Outside)
+boxRelation o c = boxed (boxHolds o c) (boxMeets o c)
