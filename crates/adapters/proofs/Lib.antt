@@ -1,0 +1,2 @@
+pub mod LiftedLaws
+pub mod PairLaws
