@@ -1,1 +1,4 @@
-pub mod Stitches
+pub mod BoundLaws
+pub mod ColumnLaws
+pub mod SeenLaws
+pub mod ChartLaws

@@ -1,12 +1,13 @@
 -- The places where a stitch chart has a stitch.
 use Prim.Native.Nat.{ℕ, _+_, _-_, _*_}
-use mathlib.Core.Bool.{Bool, _&&_}
+use mathlib.Core.Bool.{Bool, false, cond, _&&_}
 use mathlib.Core.List.{List, [], _∷_}
 use denote.Ref.{now}
 use lib.Dec.{eqb, leb, ltb}
 use lib.ListN.{length, getD}
+use Rattle.std.specs.declared.option.Option.{Option}
+use Rattle.std.specs.declared.option.Option.the-variants.{Some, None}
 use Rattle.grid.specs.declared.axis.Axis.the-variants.{Needle, Course, Track}
-use Rattle.grid.specs.declared.place.Place.{Place}
 use Rattle.grid.specs.Places.{at}
 use Rattle.pattern.specs.Sets.{PlaceSet}
 use Rattle.charts.specs.declared.Chart.{Chart}
@@ -20,21 +21,27 @@ pub record Frame : Type 0 where
 abbrev pub frame : ℕ → ℕ → ℕ → Frame
 frame l f w = record { left = l; first = f; width = w }
 
--- The place is not before the left needle or the first course, and its column is within the width.
-abbrev pub framed : Frame → Place → Bool
-framed f p = leb (f .left) (at p Needle) && (leb (f .first) (at p Course) && ltb (at p Needle - f .left) (f .width))
+-- The column is not before the left needle or the first course, and lies within the width.
+abbrev pub framed : Frame → ℕ → ℕ → Bool
+framed f needle course = leb (f .left) needle && (leb (f .first) course && ltb (needle - f .left) (f .width))
 
--- Which stitch stands at the column and the row of a place, counted row by row from 0.
-abbrev pub indexIn : Frame → Place → ℕ
-indexIn f p = (at p Course - f .first) * f .width + (at p Needle - f .left)
+-- Which byte stands at a needle and a course, counted row by row from 0.
+abbrev pub indexIn : Frame → ℕ → ℕ → ℕ
+indexIn f needle course = (course - f .first) * f .width + (needle - f .left)
 
--- A byte below 8 is the track of the stitch; any other stands for no stitch.
-abbrev pub names : ℕ → ℕ → Bool
-names byte track = ltb byte 8 && eqb byte track
+-- The byte at a needle and a course; none outside the frame, and none past the last byte.
+abbrev pub byteAt : Frame → List ℕ → ℕ → ℕ → Option ℕ
+byteAt f bytes needle course =
+    cond (framed f needle course && ltb (indexIn f needle course) (length bytes)) (Some (getD bytes (indexIn f needle course) 0)) None
 
--- A place has a stitch if the byte there names its track. Past the last byte there is no stitch.
+-- A byte below 8 is the track of the stitch; any other stands for no stitch, and so does none.
+abbrev pub names : Option ℕ → ℕ → Bool
+names (Some byte) track = ltb byte 8 && eqb byte track
+names None track = false
+
+-- A place has a stitch if the byte at its needle and course names its track.
 abbrev pub stitchSet : Frame → List ℕ → PlaceSet
-stitchSet f bytes p = framed f p && (ltb (indexIn f p) (length bytes) && names (getD bytes (indexIn f p) 0) (at p Track))
+stitchSet f bytes p = names (byteAt f bytes (at p Needle) (at p Course)) (at p Track)
 
 -- The frame and the bytes of a chart.
 abbrev pub frameOf : Chart → Frame

@@ -1,1 +1,3 @@
 pub mod Charts
+pub mod Judging
+pub mod Banks
