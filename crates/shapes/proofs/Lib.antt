@@ -1,0 +1,4 @@
+pub mod BlockLaws
+pub mod Products
+pub mod SlopeLaws
+pub mod LeafLaws

@@ -1,0 +1,5 @@
+pub mod Bare
+pub mod Blocks
+pub mod Slopes
+pub mod Shapes
+pub mod Leaves
