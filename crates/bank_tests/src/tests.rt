@@ -1,0 +1,266 @@
+// The edges of the rules of lifted patterns and of pairs, as tables. The expected values are worked out by hand from the
+// rules.
+use adapters::Lifted;
+use adapters::LiftedBank;
+use adapters::LiftedPattern;
+use adapters::Pair;
+use adapters::PairBank;
+use adapters::PairPattern;
+use charts::Chart;
+use charts::ChartBank;
+use charts::ChartPattern;
+use grid::BarePlace;
+use grid::Cell;
+use grid::Place;
+use grid::Refusal;
+use grid::RefusalDebug;
+use passes::Pass;
+use passes::PassBank;
+use passes::PassList;
+use passes::PassPattern;
+use pattern::Bank;
+use pattern::Pattern;
+use pattern::Relation;
+use pattern::RelationDebug;
+use pattern::RelationPartialEq;
+use pieces::Edge;
+use pieces::Piece;
+use pieces::PiecePattern;
+use shapes::Block;
+use shapes::Shape;
+use shapes::ShapeBank;
+use shapes::ShapeList;
+use shapes::ShapePattern;
+use std::test::*;
+
+// A cell by its low needle, course and track, then its high ones.
+type Ends = [u16; 6];
+
+const GRID: Ends = [0, 0, 0, 4095, 65535, 7];
+
+// Needles from 4 on, on track 1: at pitch 2.5 needle 4 stands at the closed edge.
+const PIECE: Piece = Piece {
+    track: 1,
+    pitch: 2.5,
+    height: 1.5,
+    left: Edge::Closed(10.0),
+    right: Edge::Free,
+    bottom: Edge::Free,
+    top: Edge::Free,
+};
+
+// A leaf and a cell; the relation of the lifted piece.
+const LIFTED: [(u16, Ends, Relation); 8] = [
+    (0, [4, 9, 1, 4, 9, 1], Relation::Inside),
+    (0, [3, 9, 1, 3, 9, 1], Relation::Outside),
+    (0, [4, 9, 0, 4, 9, 0], Relation::Outside),
+    (0, [4, 9, 1, 5, 9, 1], Relation::Mixed),
+    (0, [0, 9, 1, 1, 9, 1], Relation::Mixed),
+    (0, GRID, Relation::Mixed),
+    (1, [4, 9, 1, 4, 9, 1], Relation::Outside),
+    (65535, GRID, Relation::Outside),
+];
+
+#[test]
+fn lifted_pieces_know_single_places() -> Result<(), Fail> {
+    let bank = Lifted { pattern: PIECE };
+    check_eq(bank.leaves(), 1)?;
+    check_eq(ends(bank.bound(0)), Some(GRID))?;
+    check_eq(ends(bank.bound(1)), None)?;
+    for (leaf, at, relation) in LIFTED {
+        let cell = cell(at)?;
+        check_eq(bank.relation(leaf, cell), relation)?;
+        let held = leaf == 0 && PIECE.covers(cell.low());
+        check_eq(bank.holds(leaf, cell.low()), held)?;
+    }
+    Ok(())
+}
+
+// Two blocks, needles 0 to 3 and course 7; one pass, needles 5 to 6 of course 7 on track 2; and a chart with one stitch,
+// needle 9 of course 7 on track 1.
+const SHAPES: [Shape; 2] = [
+    Shape::Block(Block {
+        low: BarePlace {
+            needle: 0,
+            course: 0,
+            track: 0,
+        },
+        high: BarePlace {
+            needle: 3,
+            course: 65535,
+            track: 65535,
+        },
+    }),
+    Shape::Block(Block {
+        low: BarePlace {
+            needle: 0,
+            course: 7,
+            track: 0,
+        },
+        high: BarePlace {
+            needle: 65535,
+            course: 7,
+            track: 7,
+        },
+    }),
+];
+
+const PASSES: [Pass; 1] = [Pass {
+    course: 7,
+    track: 2,
+    from: 5,
+    to: 6,
+}];
+
+const BYTES: [u8; 1] = [1];
+
+// A leaf of the shapes, the passes and the chart side by side; its bound; and the relation of needles 3 to 5 of course 7
+// on track 2.
+const LEAVES: [(u16, Option<Ends>, Relation); 6] = [
+    (0, Some([0, 0, 0, 3, 65535, 7]), Relation::Mixed),
+    (1, Some([0, 7, 0, 4095, 7, 7]), Relation::Inside),
+    (2, Some([5, 7, 2, 6, 7, 2]), Relation::Mixed),
+    (3, Some([9, 7, 0, 9, 7, 7]), Relation::Outside),
+    (4, None, Relation::Outside),
+    (65535, None, Relation::Outside),
+];
+
+// A place and which of the four leaves hold it.
+const HELD: [([u16; 3], [bool; 4]); 6] = [
+    ([3, 7, 2], [true, true, false, false]),
+    ([5, 7, 2], [false, true, true, false]),
+    ([9, 7, 1], [false, true, false, true]),
+    ([9, 7, 2], [false, true, false, false]),
+    ([0, 8, 0], [true, false, false, false]),
+    ([4, 8, 0], [false, false, false, false]),
+];
+
+#[test]
+fn leaves_stand_side_by_side() -> Result<(), Fail> {
+    let shapes = ShapeList::new(&SHAPES);
+    let passes = PassList::new(&PASSES);
+    let chart = Chart::new(9, 7, 1, &BYTES);
+    let none = ShapeList::new(&[]);
+    let to_right = Pair {
+        first: shapes,
+        second: Pair {
+            first: passes,
+            second: chart,
+        },
+    };
+    let to_left = Pair {
+        first: Pair {
+            first: Pair {
+                first: none,
+                second: shapes,
+            },
+            second: passes,
+        },
+        second: chart,
+    };
+    check_eq(to_right.leaves(), 4)?;
+    check_eq(to_left.leaves(), 4)?;
+    let at = cell([3, 7, 2, 5, 7, 2])?;
+    for (leaf, bound, relation) in LEAVES {
+        check_eq(ends(to_right.bound(leaf)), bound)?;
+        check_eq(ends(to_left.bound(leaf)), bound)?;
+        check_eq(to_right.relation(leaf, at), relation)?;
+        check_eq(to_left.relation(leaf, at), relation)?;
+    }
+    for (numbers, holds) in HELD {
+        let place = place(numbers)?;
+        let right = [
+            to_right.holds(0, place),
+            to_right.holds(1, place),
+            to_right.holds(2, place),
+            to_right.holds(3, place),
+        ];
+        let left = [
+            to_left.holds(0, place),
+            to_left.holds(1, place),
+            to_left.holds(2, place),
+            to_left.holds(3, place),
+        ];
+        check_eq(right, holds)?;
+        check_eq(left, holds)?;
+        check_eq(to_right.holds(4, place), false)?;
+        check_eq(to_left.holds(65535, place), false)?;
+    }
+    Ok(())
+}
+
+// How many blocks come before the pass; the leaves that count; and the bound and the relation of leaf 65534 to needle 5 of
+// course 7 on track 2, which the pass has and the block has not.
+const COUNTS: [(usize, u16, Option<Ends>, Relation); 4] = [
+    (65533, 65534, None, Relation::Outside),
+    (65534, 65535, Some([5, 7, 2, 6, 7, 2]), Relation::Inside),
+    (
+        65535,
+        65535,
+        Some([0, 0, 0, 3, 65535, 7]),
+        Relation::Outside,
+    ),
+    (
+        65536,
+        65535,
+        Some([0, 0, 0, 3, 65535, 7]),
+        Relation::Outside,
+    ),
+];
+
+#[test]
+fn leaves_after_the_last_do_not_count(rt: LibcRuntime) -> Result<(), Fail> {
+    let blocks = vec![in rt.alloc(); SHAPES[0]; 65536]?;
+    let passes = PassList::new(&PASSES);
+    let at = cell([5, 7, 2, 5, 7, 2])?;
+    for (count, leaves, bound, relation) in COUNTS {
+        check(count <= blocks.len())?;
+        let first = ShapeList::new(&blocks.as_slice()[0..count]);
+        let pair = Pair {
+            first,
+            second: passes,
+        };
+        check_eq(pair.leaves(), leaves)?;
+        check_eq(ends(pair.bound(65534)), bound)?;
+        check_eq(pair.relation(65534, at), relation)?;
+        check_eq(pair.holds(65534, at.low()), relation == Relation::Inside)?;
+        check_eq(ends(pair.bound(65535)), None)?;
+        check_eq(pair.relation(65535, at), Relation::Outside)?;
+        check_eq(pair.holds(65535, at.low()), false)?;
+        check_eq(first.leaves() == 65535, count >= 65535)?;
+        check_eq(ends(first.bound(65535)), None)?;
+    }
+    Ok(())
+}
+
+fn place(at: [u16; 3]) -> Result<Place, Refusal> {
+    Place::new(bare(at[0], at[1], at[2]))
+}
+
+fn cell(at: Ends) -> Result<Cell, Refusal> {
+    Cell::workspace(bare(at[0], at[1], at[2]), bare(at[3], at[4], at[5]))
+}
+
+fn bare(needle: u16, course: u16, track: u16) -> BarePlace {
+    BarePlace {
+        needle,
+        course,
+        track,
+    }
+}
+
+fn ends(cell: Option<Cell>) -> Option<Ends> {
+    let Some(c) = cell else {
+        return None;
+    };
+    let low = c.low();
+    let high = c.high();
+    Some([
+        low.needle(),
+        low.course(),
+        low.track(),
+        high.needle(),
+        high.course(),
+        high.track(),
+    ])
+}
