@@ -1,5 +1,7 @@
 // Compares the stitch chart of an intarsia panel with the carriage program that should knit it.
 mod panel;
+mod quarters;
+mod span;
 
 ghost use Rattle.agree.specs.Courses.{CourseOf};
 use charts::Chart;
@@ -10,23 +12,15 @@ use grid::Cell;
 use grid::Place;
 use passes::PassList;
 use passes::PassPattern;
+use span::Span;
+use span::SpanDisplay;
 use std::error::AnyError;
 use std::io;
 
 // Prints the ends and the sizes of the workspace.
 fn report_workspace(rt: &impl Print, workspace: &Cell) -> io::Result<()> {
-    let low = workspace.low();
-    let high = workspace.high();
-    println!(
-        rt,
-        "workspace: needles {} to {}, courses {} to {}, tracks {} to {}",
-        low.needle(),
-        high.needle(),
-        low.course(),
-        high.course(),
-        low.track(),
-        high.track()
-    )?;
+    let span = Span { cell: *workspace };
+    println!(rt, "workspace: {span}")?;
     let places = workspace.places();
     let halvings = workspace.halvings();
     println!(rt, "{places} places, to be halved {halvings} times at most")
@@ -154,6 +148,7 @@ fn run(rt: &LibcRuntime) -> Result<(), AnyError> {
     println!(rt, "chart: {bytes} bytes in rows of {width}")?;
     println!(rt, "carriage program: {count} passes")?;
     report_workspace(rt, &workspace)?;
+    quarters::report(rt, &chart, &passes, &workspace)?;
     report_courses(rt, &chart, &passes, &workspace)?;
     report_totals(rt, &chart, &passes, &workspace)?;
     Ok(())
