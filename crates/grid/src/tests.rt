@@ -74,6 +74,36 @@ fn workspaces_are_taken_or_refused() -> Result<(), Fail> {
     Ok(())
 }
 
+// The ends of a box and the box cut by the grid; none if nothing of it is there.
+const BOXES: [(Ends, Option<Ends>); 10] = [
+    ([0, 0, 0, 4095, 65535, 7], Some([0, 0, 0, 4095, 65535, 7])),
+    (
+        [0, 0, 0, 65535, 65535, 65535],
+        Some([0, 0, 0, 4095, 65535, 7]),
+    ),
+    (
+        [4095, 65535, 7, 65535, 65535, 8],
+        Some([4095, 65535, 7, 4095, 65535, 7]),
+    ),
+    ([3, 4, 5, 3, 4, 5], Some([3, 4, 5, 3, 4, 5])),
+    ([4096, 0, 0, 65535, 0, 0], None),
+    ([0, 0, 8, 0, 0, 9], None),
+    ([5, 0, 0, 4, 9, 7], None),
+    ([0, 1, 0, 9, 0, 7], None),
+    ([0, 0, 3, 9, 9, 2], None),
+    ([4097, 0, 0, 4096, 9, 7], None),
+];
+
+#[test]
+fn boxes_are_cut_by_the_grid() -> Result<(), Fail> {
+    for (given, expected) in BOXES {
+        let low = bare([given[0], given[1], given[2]]);
+        let high = bare([given[3], given[4], given[5]]);
+        check_eq(possible(Cell::from_box(low, high)), expected)?;
+    }
+    check_eq(ends(Cell::grid()), [0, 0, 0, 4095, 65535, 7])
+}
+
 // Two cells and their cut, the same in either order.
 const CUTS: [(Ends, Ends, Option<Ends>); 8] = [
     (

@@ -1,13 +1,22 @@
 // The edges of every rule of passes, as tables. The expected values are worked out by hand from the rules.
 use crate::Pass;
+use crate::PassBank;
 use crate::PassList;
 use crate::PassPattern;
 use grid::BarePlace;
+use grid::Cell;
 use grid::Place;
 use grid::Refusal;
 use grid::RefusalDebug;
+use pattern::Bank;
 use pattern::Pattern;
+use pattern::Relation;
+use pattern::RelationDebug;
+use pattern::RelationPartialEq;
 use std::test::*;
+
+// A cell by its low needle, course and track, then its high ones.
+type Ends = [u16; 6];
 
 // Course, track, from and to of a pass; needle, course and track of a place; whether the pass holds it.
 const PASSES: [([u16; 4], [u16; 3], bool); 16] = [
@@ -32,14 +41,8 @@ const PASSES: [([u16; 4], [u16; 3], bool); 16] = [
 #[test]
 fn passes_hold_their_needles() -> Result<(), Fail> {
     for (numbers, at, holds) in PASSES {
-        let pass = Pass {
-            course: numbers[0],
-            track: numbers[1],
-            from: numbers[2],
-            to: numbers[3],
-        };
-        let list = [pass];
-        check_eq(pass.holds(place(at)?), holds)?;
+        let list = [pass(numbers)];
+        check_eq(pass(numbers).holds(place(at)?), holds)?;
         check_eq(PassList::new(&list).holds(0, place(at)?), holds)?;
     }
     Ok(())
@@ -90,10 +93,126 @@ fn lists_have_one_leaf() -> Result<(), Fail> {
     check_eq(none.holds(0, place([0, 0, 0])?), false)
 }
 
-fn place(numbers: [u16; 3]) -> Result<Place, Refusal> {
-    Place::new(BarePlace {
-        needle: numbers[0],
-        course: numbers[1],
-        track: numbers[2],
-    })
+// Three passes, by course, track, from and to, and the hull of what they knit; none if they knit nothing. A pass from
+// needle 1 to needle 0 is empty.
+const BOUNDS: [([[u16; 4]; 3], Option<Ends>); 9] = [
+    ([[0, 0, 1, 0], [0, 0, 1, 0], [0, 0, 1, 0]], None),
+    (
+        [[5, 1, 10, 12], [0, 0, 1, 0], [0, 0, 1, 0]],
+        Some([10, 5, 1, 12, 5, 1]),
+    ),
+    (
+        [[0, 0, 1, 0], [5, 1, 10, 12], [2, 6, 20, 20]],
+        Some([10, 2, 1, 20, 5, 6]),
+    ),
+    (
+        [[5, 1, 10, 12], [5, 1, 11, 14], [5, 1, 9, 9]],
+        Some([9, 5, 1, 14, 5, 1]),
+    ),
+    ([[5, 8, 10, 12], [0, 0, 1, 0], [0, 0, 1, 0]], None),
+    (
+        [[5, 8, 0, 4095], [5, 7, 10, 12], [0, 0, 1, 0]],
+        Some([10, 5, 7, 12, 5, 7]),
+    ),
+    (
+        [[5, 1, 4000, 65535], [0, 0, 1, 0], [0, 0, 1, 0]],
+        Some([4000, 5, 1, 4095, 5, 1]),
+    ),
+    (
+        [[5, 1, 4096, 65535], [0, 0, 0, 0], [5, 65535, 0, 0]],
+        Some([0, 0, 0, 0, 0, 0]),
+    ),
+    (
+        [[65535, 7, 4095, 4095], [0, 0, 1, 0], [0, 0, 0, 0]],
+        Some([0, 0, 0, 4095, 65535, 7]),
+    ),
+];
+
+#[test]
+fn bounds_are_hulls() -> Result<(), Fail> {
+    for (runs, bound) in BOUNDS {
+        let passes = [pass(runs[0]), pass(runs[1]), pass(runs[2])];
+        let list = PassList::new(&passes);
+        check_eq(ends(list.bound(0)), bound)?;
+        check_eq(ends(list.bound(1)), None)?;
+        check_eq(ends(list.bound(65535)), None)?;
+    }
+    check_eq(ends(PassList::new(&[]).bound(0)), None)
+}
+
+// A cell and its relation to the passes of needles 3 to 5 and 6 to 8 in course 2 on track 0, and of all needles in course
+// 3 on track 1.
+const RELATIONS: [(Ends, Relation); 14] = [
+    ([3, 2, 0, 5, 2, 0], Relation::Inside),
+    ([6, 2, 0, 8, 2, 0], Relation::Inside),
+    ([7, 2, 0, 8, 2, 0], Relation::Inside),
+    ([4, 2, 0, 4, 2, 0], Relation::Inside),
+    ([0, 3, 1, 4095, 3, 1], Relation::Inside),
+    // two passes together have all of it, and none has it alone
+    ([3, 2, 0, 8, 2, 0], Relation::Mixed),
+    ([5, 2, 0, 6, 2, 0], Relation::Mixed),
+    ([2, 2, 0, 3, 2, 0], Relation::Mixed),
+    ([0, 3, 0, 4095, 3, 1], Relation::Mixed),
+    ([0, 0, 0, 4095, 65535, 7], Relation::Mixed),
+    ([9, 2, 0, 9, 2, 0], Relation::Outside),
+    ([0, 0, 0, 2, 2, 0], Relation::Outside),
+    ([9, 0, 0, 4095, 2, 7], Relation::Outside),
+    ([3, 2, 1, 5, 2, 1], Relation::Outside),
+];
+
+#[test]
+fn one_pass_settles_a_cell() -> Result<(), Fail> {
+    let passes = [
+        pass([2, 0, 3, 5]),
+        pass([2, 0, 6, 8]),
+        pass([3, 1, 0, 4095]),
+    ];
+    let list = PassList::new(&passes);
+    for (at, relation) in RELATIONS {
+        check_eq(list.relation(0, cell(at)?), relation)?;
+        check_eq(list.relation(1, cell(at)?), Relation::Outside)?;
+        check_eq(PassList::new(&[]).relation(0, cell(at)?), Relation::Outside)?;
+    }
+    Ok(())
+}
+
+fn pass(numbers: [u16; 4]) -> Pass {
+    Pass {
+        course: numbers[0],
+        track: numbers[1],
+        from: numbers[2],
+        to: numbers[3],
+    }
+}
+
+fn bare(needle: u16, course: u16, track: u16) -> BarePlace {
+    BarePlace {
+        needle,
+        course,
+        track,
+    }
+}
+
+fn place(at: [u16; 3]) -> Result<Place, Refusal> {
+    Place::new(bare(at[0], at[1], at[2]))
+}
+
+fn cell(at: Ends) -> Result<Cell, Refusal> {
+    Cell::workspace(bare(at[0], at[1], at[2]), bare(at[3], at[4], at[5]))
+}
+
+fn ends(cell: Option<Cell>) -> Option<Ends> {
+    let Some(c) = cell else {
+        return None;
+    };
+    let low = c.low();
+    let high = c.high();
+    Some([
+        low.needle(),
+        low.course(),
+        low.track(),
+        high.needle(),
+        high.course(),
+        high.track(),
+    ])
 }

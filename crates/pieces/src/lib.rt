@@ -92,3 +92,6 @@ pub impl Pattern for Piece as PiecePattern {
         leaf == 0 && self.covers(place)
     }
 }
+
+#[cfg(test)]
+mod tests;
