@@ -101,6 +101,3 @@ pub impl<'a> Bank for Chart<'a> as ChartBank {
 
     fn own_sets(&self) {}
 }
-
-#[cfg(test)]
-mod tests;

@@ -14,6 +14,3 @@ pub use cell::Cell;
 pub use place::Place;
 pub use refusal::Refusal;
 pub use refusal::RefusalDebug;
-
-#[cfg(test)]
-mod tests;

@@ -126,6 +126,3 @@ pub impl<'a> Bank for PassList<'a> as PassBank {
 
     fn own_sets(&self) {}
 }
-
-#[cfg(test)]
-mod tests;

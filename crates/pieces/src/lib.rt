@@ -92,6 +92,3 @@ pub impl Pattern for Piece as PiecePattern {
         leaf == 0 && self.covers(place)
     }
 }
-
-#[cfg(test)]
-mod tests;

@@ -11,6 +11,3 @@ pub use list::ShapeList;
 pub use list::ShapePattern;
 pub use shape::Shape;
 pub use slope::Slope;
-
-#[cfg(test)]
-mod tests;

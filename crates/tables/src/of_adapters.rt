@@ -1,5 +1,10 @@
 // The edges of the rules of lifted patterns and of pairs, as tables. The expected values are worked out by hand from the
 // rules.
+use crate::rows::Ends;
+use crate::rows::GRID;
+use crate::rows::cell;
+use crate::rows::place;
+use crate::rows::possible;
 use adapters::Lifted;
 use adapters::LiftedBank;
 use adapters::LiftedPattern;
@@ -10,9 +15,6 @@ use charts::Chart;
 use charts::ChartBank;
 use charts::ChartPattern;
 use grid::BarePlace;
-use grid::Cell;
-use grid::Place;
-use grid::Refusal;
 use grid::RefusalDebug;
 use passes::Pass;
 use passes::PassBank;
@@ -32,11 +34,6 @@ use shapes::ShapeBank;
 use shapes::ShapeList;
 use shapes::ShapePattern;
 use std::test::*;
-
-// A cell by its low needle, course and track, then its high ones.
-type Ends = [u16; 6];
-
-const GRID: Ends = [0, 0, 0, 4095, 65535, 7];
 
 // Needles from 4 on, on track 1: at pitch 2.5 needle 4 stands at the closed edge.
 const PIECE: Piece = Piece {
@@ -65,8 +62,8 @@ const LIFTED: [(u16, Ends, Relation); 8] = [
 fn lifted_pieces_know_single_places() -> Result<(), Fail> {
     let bank = Lifted { pattern: PIECE };
     check_eq(bank.leaves(), 1)?;
-    check_eq(ends(bank.bound(0)), Some(GRID))?;
-    check_eq(ends(bank.bound(1)), None)?;
+    check_eq(possible(bank.bound(0)), Some(GRID))?;
+    check_eq(possible(bank.bound(1)), None)?;
     for (leaf, at, relation) in LIFTED {
         let cell = cell(at)?;
         check_eq(bank.relation(leaf, cell), relation)?;
@@ -162,8 +159,8 @@ fn leaves_stand_side_by_side() -> Result<(), Fail> {
     check_eq(to_left.leaves(), 4)?;
     let at = cell([3, 7, 2, 5, 7, 2])?;
     for (leaf, bound, relation) in LEAVES {
-        check_eq(ends(to_right.bound(leaf)), bound)?;
-        check_eq(ends(to_left.bound(leaf)), bound)?;
+        check_eq(possible(to_right.bound(leaf)), bound)?;
+        check_eq(possible(to_left.bound(leaf)), bound)?;
         check_eq(to_right.relation(leaf, at), relation)?;
         check_eq(to_left.relation(leaf, at), relation)?;
     }
@@ -221,46 +218,14 @@ fn leaves_after_the_last_do_not_count(rt: LibcRuntime) -> Result<(), Fail> {
             second: passes,
         };
         check_eq(pair.leaves(), leaves)?;
-        check_eq(ends(pair.bound(65534)), bound)?;
+        check_eq(possible(pair.bound(65534)), bound)?;
         check_eq(pair.relation(65534, at), relation)?;
         check_eq(pair.holds(65534, at.low()), relation == Relation::Inside)?;
-        check_eq(ends(pair.bound(65535)), None)?;
+        check_eq(possible(pair.bound(65535)), None)?;
         check_eq(pair.relation(65535, at), Relation::Outside)?;
         check_eq(pair.holds(65535, at.low()), false)?;
         check_eq(first.leaves() == 65535, count >= 65535)?;
-        check_eq(ends(first.bound(65535)), None)?;
+        check_eq(possible(first.bound(65535)), None)?;
     }
     Ok(())
-}
-
-fn place(at: [u16; 3]) -> Result<Place, Refusal> {
-    Place::new(bare(at[0], at[1], at[2]))
-}
-
-fn cell(at: Ends) -> Result<Cell, Refusal> {
-    Cell::workspace(bare(at[0], at[1], at[2]), bare(at[3], at[4], at[5]))
-}
-
-fn bare(needle: u16, course: u16, track: u16) -> BarePlace {
-    BarePlace {
-        needle,
-        course,
-        track,
-    }
-}
-
-fn ends(cell: Option<Cell>) -> Option<Ends> {
-    let Some(c) = cell else {
-        return None;
-    };
-    let low = c.low();
-    let high = c.high();
-    Some([
-        low.needle(),
-        low.course(),
-        low.track(),
-        high.needle(),
-        high.course(),
-        high.track(),
-    ])
 }

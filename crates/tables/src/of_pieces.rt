@@ -1,15 +1,13 @@
 // The edges of every rule of measured pieces, as tables. The expected values are worked out by hand from the rules.
-use crate::Edge;
-use crate::Edge::Closed;
-use crate::Edge::Free;
-use crate::Edge::Open;
-use crate::Piece;
-use crate::PiecePattern;
-use grid::BarePlace;
-use grid::Place;
-use grid::Refusal;
+use crate::rows::place;
 use grid::RefusalDebug;
 use pattern::Pattern;
+use pieces::Edge;
+use pieces::Edge::Closed;
+use pieces::Edge::Free;
+use pieces::Edge::Open;
+use pieces::Piece;
+use pieces::PiecePattern;
 use std::test::*;
 
 const NOT_A_NUMBER: f64 = f64::NAN;
@@ -129,12 +127,4 @@ fn pieces_have_one_leaf() -> Result<(), Fail> {
     off.track = 8;
     check_eq(off.leaves(), 1)?;
     check_eq(off.holds(0, place([4, 2, 0])?), false)
-}
-
-fn place(numbers: [u16; 3]) -> Result<Place, Refusal> {
-    Place::new(BarePlace {
-        needle: numbers[0],
-        course: numbers[1],
-        track: numbers[2],
-    })
 }

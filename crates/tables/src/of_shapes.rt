@@ -1,14 +1,14 @@
 // The edges of every rule of shapes, as tables. A block or a cell is written as its six ends: low needle, course and
 // track, then high needle, course and track. The expected values are worked out by hand from the rules.
-use crate::Block;
-use crate::Shape;
-use crate::ShapeBank;
-use crate::ShapeList;
-use crate::ShapePattern;
-use crate::Slope;
+use crate::rows::Ends;
+use crate::rows::GRID;
+use crate::rows::cell;
+use crate::rows::high_of;
+use crate::rows::low_of;
+use crate::rows::place;
+use crate::rows::possible;
 use grid::BarePlace;
 use grid::Cell;
-use grid::Place;
 use grid::Refusal;
 use grid::RefusalDebug;
 use pattern::Bank;
@@ -16,11 +16,13 @@ use pattern::Pattern;
 use pattern::Relation;
 use pattern::RelationDebug;
 use pattern::RelationPartialEq;
+use shapes::Block;
+use shapes::Shape;
+use shapes::ShapeBank;
+use shapes::ShapeList;
+use shapes::ShapePattern;
+use shapes::Slope;
 use std::test::*;
-
-type Ends = [u16; 6];
-
-const GRID: Ends = [0, 0, 0, 4095, 65535, 7];
 
 // The ends of a block, and those of its bound.
 const BOUNDS: [(Ends, Option<Ends>); 13] = [
@@ -328,8 +330,8 @@ fn bound_in<B: Bank>(bank: &B, leaf: u16) -> Option<Cell> {
 
 fn block(ends: Ends) -> Block {
     Block {
-        low: bare([ends[0], ends[1], ends[2]]),
-        high: bare([ends[3], ends[4], ends[5]]),
+        low: low_of(ends),
+        high: high_of(ends),
     }
 }
 
@@ -339,38 +341,5 @@ fn slope(factors: [i16; 3], limit: i64) -> Slope {
         course: factors[1],
         track: factors[2],
         limit,
-    }
-}
-
-fn bare(numbers: [u16; 3]) -> BarePlace {
-    BarePlace {
-        needle: numbers[0],
-        course: numbers[1],
-        track: numbers[2],
-    }
-}
-
-fn place(numbers: [u16; 3]) -> Result<Place, Refusal> {
-    Place::new(bare(numbers))
-}
-
-fn cell(ends: Ends) -> Result<Cell, Refusal> {
-    Cell::workspace(
-        bare([ends[0], ends[1], ends[2]]),
-        bare([ends[3], ends[4], ends[5]]),
-    )
-}
-
-fn possible(cell: Option<Cell>) -> Option<Ends> {
-    match cell {
-        Some(c) => Some([
-            c.low().needle(),
-            c.low().course(),
-            c.low().track(),
-            c.high().needle(),
-            c.high().course(),
-            c.high().track(),
-        ]),
-        None => None,
     }
 }

@@ -1,22 +1,19 @@
 // The edges of every rule of passes, as tables. The expected values are worked out by hand from the rules.
-use crate::Pass;
-use crate::PassBank;
-use crate::PassList;
-use crate::PassPattern;
-use grid::BarePlace;
-use grid::Cell;
-use grid::Place;
-use grid::Refusal;
+use crate::rows::Ends;
+use crate::rows::cell;
+use crate::rows::place;
+use crate::rows::possible;
 use grid::RefusalDebug;
+use passes::Pass;
+use passes::PassBank;
+use passes::PassList;
+use passes::PassPattern;
 use pattern::Bank;
 use pattern::Pattern;
 use pattern::Relation;
 use pattern::RelationDebug;
 use pattern::RelationPartialEq;
 use std::test::*;
-
-// A cell by its low needle, course and track, then its high ones.
-type Ends = [u16; 6];
 
 // Course, track, from and to of a pass; needle, course and track of a place; whether the pass holds it.
 const PASSES: [([u16; 4], [u16; 3], bool); 16] = [
@@ -133,11 +130,11 @@ fn bounds_are_hulls() -> Result<(), Fail> {
     for (runs, bound) in BOUNDS {
         let passes = [pass(runs[0]), pass(runs[1]), pass(runs[2])];
         let list = PassList::new(&passes);
-        check_eq(ends(list.bound(0)), bound)?;
-        check_eq(ends(list.bound(1)), None)?;
-        check_eq(ends(list.bound(65535)), None)?;
+        check_eq(possible(list.bound(0)), bound)?;
+        check_eq(possible(list.bound(1)), None)?;
+        check_eq(possible(list.bound(65535)), None)?;
     }
-    check_eq(ends(PassList::new(&[]).bound(0)), None)
+    check_eq(possible(PassList::new(&[]).bound(0)), None)
 }
 
 // A cell and its relation to the passes of needles 3 to 5 and 6 to 8 in course 2 on track 0, and of all needles in course
@@ -183,36 +180,4 @@ fn pass(numbers: [u16; 4]) -> Pass {
         from: numbers[2],
         to: numbers[3],
     }
-}
-
-fn bare(needle: u16, course: u16, track: u16) -> BarePlace {
-    BarePlace {
-        needle,
-        course,
-        track,
-    }
-}
-
-fn place(at: [u16; 3]) -> Result<Place, Refusal> {
-    Place::new(bare(at[0], at[1], at[2]))
-}
-
-fn cell(at: Ends) -> Result<Cell, Refusal> {
-    Cell::workspace(bare(at[0], at[1], at[2]), bare(at[3], at[4], at[5]))
-}
-
-fn ends(cell: Option<Cell>) -> Option<Ends> {
-    let Some(c) = cell else {
-        return None;
-    };
-    let low = c.low();
-    let high = c.high();
-    Some([
-        low.needle(),
-        low.course(),
-        low.track(),
-        high.needle(),
-        high.course(),
-        high.track(),
-    ])
 }

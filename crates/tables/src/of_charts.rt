@@ -1,11 +1,12 @@
 // The edges of every rule of charts, as tables. The expected values are worked out by hand from the rules.
-use crate::Chart;
-use crate::ChartBank;
-use crate::ChartPattern;
-use grid::BarePlace;
+use crate::rows::Ends;
+use crate::rows::cell;
+use crate::rows::place;
+use crate::rows::possible;
+use charts::Chart;
+use charts::ChartBank;
+use charts::ChartPattern;
 use grid::Cell;
-use grid::Place;
-use grid::Refusal;
 use grid::RefusalDebug;
 use pattern::Bank;
 use pattern::Pattern;
@@ -13,9 +14,6 @@ use pattern::Relation;
 use pattern::RelationDebug;
 use pattern::RelationPartialEq;
 use std::test::*;
-
-// A cell by its six ends: low needle, course and track, then high needle, course and track.
-type Ends = [u16; 6];
 
 // A chart's frame: left needle, first course and width. A place and whether the chart of the bytes 1 1 2 9 holds it.
 const FRAMES: [([u16; 3], [u16; 3], bool); 21] = [
@@ -107,14 +105,14 @@ fn bounds_are_the_frames_of_the_rows() -> Result<(), Fail> {
     let bytes = [1u8; 7];
     for (frame, count, bound) in BOUNDS {
         let chart = Chart::new(frame[0], frame[1], frame[2], first(&bytes, count));
-        check_eq(ends(chart.bound(0)), bound)?;
-        check_eq(ends(chart.bound(1)), None)?;
-        check_eq(ends(chart.bound(65535)), None)?;
+        check_eq(possible(chart.bound(0)), bound)?;
+        check_eq(possible(chart.bound(1)), None)?;
+        check_eq(possible(chart.bound(65535)), None)?;
     }
     // 65,537 rows are one more than the grid has courses.
     let rows = [1u8; 65537];
     let chart = Chart::new(7, 0, 1, &rows);
-    check_eq(ends(chart.bound(0)), Some([7, 0, 0, 7, 65535, 7]))
+    check_eq(possible(chart.bound(0)), Some([7, 0, 0, 7, 65535, 7]))
 }
 
 // A leaf and a cell, and how the chart with the frame 10 0 3 and the bytes 1 1 2 9 lies to it. Its bound has the needles
@@ -192,38 +190,5 @@ fn first(bytes: &[u8], count: usize) -> &[u8] {
         &bytes[..count]
     } else {
         bytes
-    }
-}
-
-fn ends(cell: Option<Cell>) -> Option<Ends> {
-    let cell = cell?;
-    let low = cell.low();
-    let high = cell.high();
-    Some([
-        low.needle(),
-        low.course(),
-        low.track(),
-        high.needle(),
-        high.course(),
-        high.track(),
-    ])
-}
-
-fn cell(ends: Ends) -> Result<Cell, Refusal> {
-    Cell::workspace(
-        bare(ends[0], ends[1], ends[2]),
-        bare(ends[3], ends[4], ends[5]),
-    )
-}
-
-fn place(numbers: [u16; 3]) -> Result<Place, Refusal> {
-    Place::new(bare(numbers[0], numbers[1], numbers[2]))
-}
-
-fn bare(needle: u16, course: u16, track: u16) -> BarePlace {
-    BarePlace {
-        needle,
-        course,
-        track,
     }
 }

@@ -1,14 +1,16 @@
 // The edges of every rule of the grid, as tables. A cell is written as its six ends: low needle, course and track, then
 // high needle, course and track. The expected values are worked out by hand from the rules.
-use crate::Axis;
-use crate::BarePlace;
-use crate::Cell;
-use crate::Place;
-use crate::Refusal;
-use crate::RefusalDebug;
+use crate::rows::Ends;
+use crate::rows::cell;
+use crate::rows::ends;
+use crate::rows::high_of;
+use crate::rows::low_of;
+use crate::rows::place;
+use crate::rows::possible;
+use grid::Axis;
+use grid::Cell;
+use grid::RefusalDebug;
 use std::test::*;
-
-type Ends = [u16; 6];
 
 // Numbers and the refusal they get; 0 for none.
 const PLACES: [([u16; 3], u16); 8] = [
@@ -25,7 +27,7 @@ const PLACES: [([u16; 3], u16); 8] = [
 #[test]
 fn places_end_with_the_grid() -> Result<(), Fail> {
     for (numbers, refusal) in PLACES {
-        match Place::new(bare(numbers)) {
+        match place(numbers) {
             Ok(place) => {
                 check_eq(refusal, 0)?;
                 check_eq([place.needle(), place.course(), place.track()], numbers)?;
@@ -97,9 +99,10 @@ const BOXES: [(Ends, Option<Ends>); 10] = [
 #[test]
 fn boxes_are_cut_by_the_grid() -> Result<(), Fail> {
     for (given, expected) in BOXES {
-        let low = bare([given[0], given[1], given[2]]);
-        let high = bare([given[3], given[4], given[5]]);
-        check_eq(possible(Cell::from_box(low, high)), expected)?;
+        check_eq(
+            possible(Cell::from_box(low_of(given), high_of(given))),
+            expected,
+        )?;
     }
     check_eq(ends(Cell::grid()), [0, 0, 0, 4095, 65535, 7])
 }
@@ -270,39 +273,4 @@ fn cells_lie_in_cells() -> Result<(), Fail> {
         check_eq(b.holds(a.low()) && b.holds(a.high()), lies)?;
     }
     Ok(())
-}
-
-fn bare(numbers: [u16; 3]) -> BarePlace {
-    BarePlace {
-        needle: numbers[0],
-        course: numbers[1],
-        track: numbers[2],
-    }
-}
-
-fn cell(ends: Ends) -> Result<Cell, Refusal> {
-    Cell::workspace(
-        bare([ends[0], ends[1], ends[2]]),
-        bare([ends[3], ends[4], ends[5]]),
-    )
-}
-
-fn ends(cell: Cell) -> Ends {
-    let low = cell.low();
-    let high = cell.high();
-    [
-        low.needle(),
-        low.course(),
-        low.track(),
-        high.needle(),
-        high.course(),
-        high.track(),
-    ]
-}
-
-fn possible(cell: Option<Cell>) -> Option<Ends> {
-    match cell {
-        Some(c) => Some(ends(c)),
-        None => None,
-    }
 }
