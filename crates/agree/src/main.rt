@@ -4,14 +4,18 @@ mod quarters;
 mod span;
 
 ghost use Rattle.agree.specs.Courses.{CourseOf};
-use charts::Chart;
-use charts::ChartPattern;
 use compare::Holder;
 use grid::BarePlace;
 use grid::Cell;
 use grid::Place;
-use passes::PassList;
-use passes::PassPattern;
+use lists::Chart;
+use lists::ChartBank;
+use lists::ChartPattern;
+use lists::PassBank;
+use lists::PassList;
+use lists::PassPattern;
+use pattern::Bank;
+use pattern::Relation;
 use span::Span;
 use span::SpanDisplay;
 use std::error::AnyError;
@@ -24,6 +28,57 @@ fn report_workspace(rt: &impl Print, workspace: &Cell) -> io::Result<()> {
     let places = workspace.places();
     let halvings = workspace.halvings();
     println!(rt, "{places} places, to be halved {halvings} times at most")
+}
+
+// The word for a relation.
+fn word(relation: Relation) -> &'static str {
+    match relation {
+        Relation::Inside => "inside",
+        Relation::Outside => "outside",
+        Relation::Mixed => "mixed",
+    }
+}
+
+// Prints the bound of a bank's first leaf.
+fn report_bound<B: Bank>(rt: &impl Print, name: &str, bank: &B) -> io::Result<()> {
+    match bank.bound(0) {
+        Some(cell) => {
+            let span = Span { cell };
+            println!(rt, "bound of the {name}: {span}")
+        }
+        None => println!(rt, "bound of the {name}: none"),
+    }
+}
+
+// Prints how the two lie to a quarter.
+fn report_quarter(
+    rt: &impl Print,
+    chart: &Chart,
+    passes: &PassList,
+    quarter: Cell,
+) -> io::Result<()> {
+    let span = Span { cell: quarter };
+    let chart = word(chart.relation(0, quarter));
+    let passes = word(passes.relation(0, quarter));
+    println!(rt, "quarter of {span}: chart {chart}, passes {passes}")
+}
+
+// Prints the two bounds and the relations to the quarters.
+fn report_quarters(
+    rt: &impl Print,
+    chart: &Chart,
+    passes: &PassList,
+    workspace: &Cell,
+) -> io::Result<()> {
+    report_bound(rt, "chart", chart)?;
+    report_bound(rt, "passes", passes)?;
+    let Some(quarters) = quarters::quarters(workspace) else {
+        return println!(rt, "the workspace has no quarters");
+    };
+    report_quarter(rt, chart, passes, quarters.0.0)?;
+    report_quarter(rt, chart, passes, quarters.0.1)?;
+    report_quarter(rt, chart, passes, quarters.1.0)?;
+    report_quarter(rt, chart, passes, quarters.1.1)
 }
 
 // Prints who has the stitch at a place, if only one of the two has it.
@@ -148,7 +203,7 @@ fn run(rt: &LibcRuntime) -> Result<(), AnyError> {
     println!(rt, "chart: {bytes} bytes in rows of {width}")?;
     println!(rt, "carriage program: {count} passes")?;
     report_workspace(rt, &workspace)?;
-    quarters::report(rt, &chart, &passes, &workspace)?;
+    report_quarters(rt, &chart, &passes, &workspace)?;
     report_courses(rt, &chart, &passes, &workspace)?;
     report_totals(rt, &chart, &passes, &workspace)?;
     Ok(())

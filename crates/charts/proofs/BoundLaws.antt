@@ -20,8 +20,9 @@ use Rattle.grid.specs.Places.{at}
 use Rattle.grid.specs.Cells.{cellFrom, boxOf}
 use Rattle.grid.specs.Laws.{Holds}
 use Rattle.grid.proofs.Meanings.{box-law}
-use Rattle.charts.specs.Charts.{Frame, framed, indexIn, names, stitchSet}
-use Rattle.charts.specs.Banks.{rowsOf, chartBound}
+use Rattle.charts.specs.declared.frame.Frame.{Frame}
+use Rattle.charts.specs.Charts.{framed, indexIn, names, stitchSet}
+use Rattle.charts.specs.Relations.{rowsOf, chartBound}
 
 -- a box does not depend on how far its high ends are past the grid
 box-clipped : (low high other : Axis → ℕ) → ((x : Axis) → min (other x) (top x) ≡ min (high x) (top x)) → boxOf low other ≡ boxOf low high

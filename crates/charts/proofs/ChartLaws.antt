@@ -20,12 +20,12 @@ use Rattle.grid.proofs.Meanings.{decides-meet}
 use Rattle.pattern.specs.declared.relation.Relation.the-variants.{Outside, Mixed}
 use Rattle.pattern.specs.Sets.{PlaceSet}
 use Rattle.pattern.specs.Relations.{NoneIn, Says, boxMeets, exactly}
-use Rattle.pattern.specs.Banks.{Facts}
+use Rattle.pattern.specs.Banks.{Facts, oneLeaf}
 use Rattle.pattern.proofs.BankLaws.{one-leaf-facts}
 use Rattle.pattern.proofs.ExactLaws.{exactly-says}
-use Rattle.charts.specs.declared.Chart.{Chart}
-use Rattle.charts.specs.Charts.{Frame, stitchSet, frameOf, bytesOf, chartSet}
-use Rattle.charts.specs.Banks.{chartBound, chartRelation, meaningOf}
+use Rattle.charts.specs.declared.frame.Frame.{Frame}
+use Rattle.charts.specs.Charts.{stitchSet}
+use Rattle.charts.specs.Relations.{chartBound, chartRelation}
 use Rattle.charts.proofs.BoundLaws.{stitch-bound}
 
 -- a cell that misses the bound of a set has no place of the set
@@ -45,8 +45,5 @@ relation-says f bytes c =
     cond-both (not (boxMeets (chartBound f (length bytes)) c)) Outside judged (λ r. Says r s c) (missed s (chartBound f (length bytes)) c (stitch-bound f bytes))
     (λ _. cond-both (leb (placesOf c) 1024) (exactly s c) Mixed (λ r. Says r s c) (λ _. exactly-says s c) (large-several c))
 
-pub chart-facts : (c : Chart) → Facts (meaningOf c)
-chart-facts c =
-    let f = frameOf c in
-    let bytes = bytesOf c in
-    one-leaf-facts (chartSet c) (chartBound f (length bytes)) (chartRelation f bytes) (stitch-bound f bytes) (relation-says f bytes)
+pub chart-facts : (f : Frame) (bytes : List ℕ) → Facts (oneLeaf (stitchSet f bytes) (chartBound f (length bytes)) (chartRelation f bytes))
+chart-facts f bytes = one-leaf-facts (stitchSet f bytes) (chartBound f (length bytes)) (chartRelation f bytes) (stitch-bound f bytes) (relation-says f bytes)

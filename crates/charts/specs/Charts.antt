@@ -1,8 +1,7 @@
 -- The places where a stitch chart has a stitch.
 use Prim.Native.Nat.{ℕ, _+_, _-_, _*_}
 use mathlib.Core.Bool.{Bool, false, cond, _&&_}
-use mathlib.Core.List.{List, [], _∷_}
-use denote.Ref.{now}
+use mathlib.Core.List.{List}
 use lib.Dec.{eqb, leb, ltb}
 use lib.ListN.{length, getD}
 use Rattle.std.specs.declared.option.Option.{Option}
@@ -10,16 +9,7 @@ use Rattle.std.specs.declared.option.Option.the-variants.{Some, None}
 use Rattle.grid.specs.declared.axis.Axis.the-variants.{Needle, Course, Track}
 use Rattle.grid.specs.Places.{at}
 use Rattle.pattern.specs.Sets.{PlaceSet}
-use Rattle.charts.specs.declared.Chart.{Chart}
-
--- Where a chart stands and how wide its rows are.
-pub record Frame : Type 0 where
-  pub left : ℕ
-  pub first : ℕ
-  pub width : ℕ
-
-abbrev pub frame : ℕ → ℕ → ℕ → Frame
-frame l f w = record { left = l; first = f; width = w }
+use Rattle.charts.specs.declared.frame.Frame.{Frame}
 
 -- The column is not before the left needle or the first course, and lies within the width.
 abbrev pub framed : Frame → ℕ → ℕ → Bool
@@ -42,18 +32,3 @@ names None track = false
 -- A place has a stitch if the byte at its needle and course names its track.
 abbrev pub stitchSet : Frame → List ℕ → PlaceSet
 stitchSet f bytes p = names (byteAt f bytes (at p Needle) (at p Course)) (at p Track)
-
--- The frame and the bytes of a chart.
-abbrev pub frameOf : Chart → Frame
-frameOf c = frame (c .left) (c .first) (c .width)
-
-abbrev pub bytesOf : Chart → List ℕ
-bytesOf c = now (c .bytes)
-
--- The places that a chart holds.
-abbrev pub chartSet : Chart → PlaceSet
-chartSet c = stitchSet (frameOf c) (bytesOf c)
-
--- The one leaf of a chart.
-abbrev pub leavesOf : Chart → List PlaceSet
-leavesOf c = chartSet c ∷ []

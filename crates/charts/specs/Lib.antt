@@ -1,3 +1,3 @@
 pub mod Charts
 pub mod Judging
-pub mod Banks
+pub mod Relations

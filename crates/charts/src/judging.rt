@@ -5,10 +5,10 @@ ghost use mathlib.Core.Path.{_≡_};
 ghost use Rattle.grid.specs.declared.axis.Axis.the-variants.{Needle, Course};
 ghost use Rattle.grid.specs.Cells.{lo, hi, In};
 ghost use Rattle.pattern.specs.Relations.{exactly};
-ghost use Rattle.charts.specs.Charts.{frameOf, bytesOf, chartSet};
+ghost use Rattle.charts.specs.Charts.{stitchSet};
 ghost use Rattle.charts.specs.Judging.{Shows, HasColumn, OnColumn, Before, heldBy, freeBy, seenRelation};
-ghost use Rattle.charts.specs.Banks.{chartRelation};
-use crate::Chart;
+ghost use Rattle.charts.specs.Relations.{chartRelation};
+use crate::frame::Frame;
 use grid::Cell;
 use pattern::Relation;
 
@@ -74,38 +74,38 @@ impl Seen {
     }
 }
 
-impl<'a> Chart<'a> {
+impl Frame {
     // What the cell's column at a needle and a course shows. One byte decides all its tracks.
-    fn column(&self, cell: Cell, needle: u16, course: u16) -> Seen
+    fn column(&self, bytes: &[u8], cell: Cell, needle: u16, course: u16) -> Seen
         requires { ⌜ HasColumn cell needle course ⌝ }
-        ensures { λ r. ⌜ Shows (OnColumn cell needle course) (chartSet (now (self .entry))) (r .held) (r .free) ⌝ }
+        ensures { λ r. ⌜ Shows (OnColumn cell needle course) (stitchSet (now (self .entry)) (now (bytes .entry))) (r .held) (r .free) ⌝ }
     {
         Seen::of_byte(
-            self.byte_at(needle, course),
+            self.byte_at(bytes, needle, course),
             cell.low().track(),
             cell.high().track(),
         )
     }
 
     // What the cell's row at a course shows together with the rows before it, as far as needed to settle the answer.
-    fn row(&self, cell: Cell, course: u16, before: Seen) -> Seen
+    fn row(&self, bytes: &[u8], cell: Cell, course: u16, before: Seen) -> Seen
         requires { ⌜ lo cell Course ≤ course ⌝ ∗ ⌜ course ≤ hi cell Course ⌝ }
-        requires { ⌜ Shows (Before cell (lo cell Needle) course) (chartSet (now self)) (before .held) (before .free) ⌝ }
-        ensures { λ r. ⌜ Shows (Before cell (lo cell Needle) (course + 1)) (chartSet (now (self .entry))) (r .held) (r .free) ⌝ }
+        requires { ⌜ Shows (Before cell (lo cell Needle) course) (stitchSet (now self) (now bytes)) (before .held) (before .free) ⌝ }
+        ensures { λ r. ⌜ Shows (Before cell (lo cell Needle) (course + 1)) (stitchSet (now (self .entry)) (now (bytes .entry))) (r .held) (r .free) ⌝ }
     {
         let mut seen = before;
         for needle in cell.low().needle()..cell.high().needle() + 1 {
             if seen.is_settled() {
                 return seen;
             }
-            seen = seen.with(self.column(cell, needle, course));
+            seen = seen.with(self.column(bytes, cell, needle, course));
         }
         seen
     }
 
     // What the cell shows, as far as needed to settle the answer.
-    fn seen_in(&self, cell: Cell) -> Seen
-        ensures { λ r. ⌜ Shows (λ p. In p cell) (chartSet (now (self .entry))) (r .held) (r .free) ⌝ }
+    fn seen_in(&self, bytes: &[u8], cell: Cell) -> Seen
+        ensures { λ r. ⌜ Shows (λ p. In p cell) (stitchSet (now (self .entry)) (now (bytes .entry))) (r .held) (r .free) ⌝ }
     {
         let mut seen = Seen {
             held: false,
@@ -115,29 +115,29 @@ impl<'a> Chart<'a> {
             if seen.is_settled() {
                 return seen;
             }
-            seen = self.row(cell, course as u16, seen);
+            seen = self.row(bytes, cell, course as u16, seen);
         }
         seen
     }
 
     // The exact relation to a cell.
-    fn judged(&self, cell: Cell) -> Relation
-        ensures { λ r. ⌜ r ≡ exactly (chartSet (now (self .entry))) cell ⌝ }
+    fn judged(&self, bytes: &[u8], cell: Cell) -> Relation
+        ensures { λ r. ⌜ r ≡ exactly (stitchSet (now (self .entry)) (now (bytes .entry))) cell ⌝ }
     {
-        self.seen_in(cell).relation()
+        self.seen_in(bytes, cell).relation()
     }
 
-    // The relation to a cell: exact if the cell meets the bound and is small.
-    pub(crate) fn relation_to(&self, cell: Cell) -> Relation
-        ensures { λ r. ⌜ r ≡ chartRelation (frameOf (now (self .entry))) (bytesOf (now (self .entry))) cell ⌝ }
+    // How the bytes lie to a cell: Outside if it misses the bound, exact if it has at most 1,024 places, else Mixed.
+    pub fn relation(&self, bytes: &[u8], cell: Cell) -> Relation
+        ensures { λ r. ⌜ r ≡ chartRelation (now (self .entry)) (now (bytes .entry)) cell ⌝ }
     {
-        let Some(bound) = self.frame_cell() else {
+        let Some(bound) = self.bound(bytes.len()) else {
             return Relation::Outside;
         };
         if !cell.meets(bound) {
             Relation::Outside
         } else if cell.places() <= MOST_JUDGED {
-            self.judged(cell)
+            self.judged(bytes, cell)
         } else {
             Relation::Mixed
         }

@@ -1,18 +1,13 @@
-// Carriage passes as a pattern and a bank of one leaf.
-mod list;
+// Carriage passes: the places that they knit, the hull of these, and how they lie to a cell. The public calls over passes
+// stand below the functions that do their work.
 mod pass;
 
 ghost use mathlib.Core.Path.{_≡_};
-ghost use Rattle.pattern.specs.Relations.{boxRelation};
 ghost use Rattle.passes.specs.Passes.{passSet, passesSet, passBox, passesBound, passesRelation};
-ghost use Rattle.passes.specs.PassLists.{listed, leavesOf, meaningOf};
 use grid::BarePlace;
 use grid::Cell;
 use grid::Place;
-pub use list::PassList;
 pub use pass::Pass;
-use pattern::Bank;
-use pattern::Pattern;
 use pattern::Relation;
 
 impl Pass {
@@ -44,7 +39,6 @@ impl Pass {
     }
 }
 
-// Whether one of the passes knits at a place.
 fn some_pass_holds(passes: &[Pass], place: Place) -> bool
     ensures { λ r. ⌜ r ≡ passesSet (now (passes .entry)) place ⌝ }
 {
@@ -56,7 +50,6 @@ fn some_pass_holds(passes: &[Pass], place: Place) -> bool
     false
 }
 
-// The hull of what the passes knit.
 fn hull_of(passes: &[Pass]) -> Option<Cell>
     ensures { λ r. ⌜ r ≡ passesBound (now (passes .entry)) ⌝ }
 {
@@ -67,7 +60,7 @@ fn hull_of(passes: &[Pass]) -> Option<Cell>
     hull
 }
 
-// How the passes lie to a cell. The first pass that holds all of it settles that.
+// The first pass that holds all of the cell settles it.
 fn relation_of(passes: &[Pass], cell: Cell) -> Relation
     ensures { λ r. ⌜ r ≡ passesRelation (now (passes .entry)) cell ⌝ }
 {
@@ -86,43 +79,23 @@ fn relation_of(passes: &[Pass], cell: Cell) -> Relation
     }
 }
 
-impl<'a> PassList<'a> {
-    pub fn new(passes: &'a [Pass]) -> PassList<'a>
-        ensures { λ r. ⌜ listed r ≡ now (passes .entry) ⌝ }
-    {
-        PassList {
-            passes,
-            hull: hull_of(passes),
-        }
-    }
+// Whether one of the passes knits at a place.
+pub fn some_holds(passes: &[Pass], place: Place) -> bool
+    ensures { λ r. ⌜ r ≡ passesSet (now (passes .entry)) place ⌝ }
+{
+    some_pass_holds(passes, place)
 }
 
-pub impl<'a> Pattern for PassList<'a> as PassPattern {
-    ghost sets = { leavesOf };
-
-    fn leaves(&self) -> u16 {
-        1
-    }
-
-    fn holds(&self, leaf: u16, place: Place) -> bool {
-        leaf == 0 && some_pass_holds(self.passes, place)
-    }
+// The hull of the passes, each cut by the grid.
+pub fn hull(passes: &[Pass]) -> Option<Cell>
+    ensures { λ r. ⌜ r ≡ passesBound (now (passes .entry)) ⌝ }
+{
+    hull_of(passes)
 }
 
-pub impl<'a> Bank for PassList<'a> as PassBank {
-    ghost meaning = { meaningOf };
-
-    fn bound(&self, leaf: u16) -> Option<Cell> {
-        if leaf == 0 { self.hull } else { None }
-    }
-
-    fn relation(&self, leaf: u16, cell: Cell) -> Relation {
-        if leaf == 0 {
-            relation_of(self.passes, cell)
-        } else {
-            Relation::Outside
-        }
-    }
-
-    fn own_sets(&self) {}
+// How the passes lie to a cell: Inside if one pass holds all of it, Outside if none meets it, else Mixed.
+pub fn relation(passes: &[Pass], cell: Cell) -> Relation
+    ensures { λ r. ⌜ r ≡ passesRelation (now (passes .entry)) cell ⌝ }
+{
+    relation_of(passes, cell)
 }

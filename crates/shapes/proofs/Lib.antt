@@ -1,4 +1,3 @@
 pub mod BlockLaws
 pub mod Products
 pub mod SlopeLaws
-pub mod LeafLaws

@@ -2,4 +2,3 @@ pub mod Bare
 pub mod Blocks
 pub mod Slopes
 pub mod Shapes
-pub mod Leaves

@@ -1,0 +1,3 @@
+pub mod Charts
+pub mod PassLists
+pub mod ShapeLists
