@@ -1,23 +1,21 @@
 -- A pass list owes what every bank owes. Assumes nothing.
-use mathlib.Core.Path.{_≡_, refl, sym, ap, _∙_}
-use mathlib.Core.Bool.{Bool, true, false, _&&_, _||_}
+use mathlib.Core.Path.{_≡_, refl}
+use mathlib.Core.Bool.{Bool, true, false, _||_}
 use mathlib.Core.List.{List, [], _∷_}
 use mathlib.Core.Logic.{_⊎_, inl, inr, ⊎-elim}
 use native.Mathlib.Omega.{arith}
-use lib.Dec.{eqb, leb}
 use Rattle.std.proofs.shelf.Tests.{or-cases, or-left, or-right, or-from, false≢true}
-use Rattle.std.proofs.shelf.Ways.{decides-like, decides-and, decides-eqb, tells}
+use Rattle.std.proofs.shelf.Ways.{tells}
 use Rattle.std.specs.Orderings.{Decides}
 use Rattle.std.specs.declared.option.Option.{Option}
 use Rattle.std.specs.declared.option.Option.the-variants.{None}
-use Rattle.grid.specs.declared.axis.Axis.{Axis}
 use Rattle.grid.specs.declared.axis.Axis.the-variants.{Needle, Course, Track}
 use Rattle.grid.specs.declared.cell.Cell.{Cell}
 use Rattle.grid.specs.declared.place.Place.{Place}
 use Rattle.grid.specs.Axes.{along, Below}
 use Rattle.grid.specs.Places.{at}
 use Rattle.grid.specs.Cells.{hullOf}
-use Rattle.grid.specs.Laws.{Holds}
+use Rattle.grid.specs.Laws.{Holds, Part}
 use Rattle.grid.proofs.Meanings.{box-law, hull-law}
 use Rattle.pattern.specs.Sets.{PlaceSet}
 use Rattle.pattern.specs.Relations.{Says, boxHolds, boxMeets, boxed, boxRelation}
@@ -26,7 +24,7 @@ use Rattle.pattern.proofs.ExactLaws.{exact-says}
 use Rattle.pattern.proofs.BoxLaws.{box-exact}
 use Rattle.pattern.proofs.BankLaws.{one-leaf-facts}
 use Rattle.passes.specs.declared.pass.Pass.{Pass}
-use Rattle.passes.specs.Passes.{passSet, some, passesSet, passBox, hullWith, passesBound, passesRelation}
+use Rattle.passes.specs.Passes.{passSet, some, passesSet, passBox, hullWith, passesBound, HullOfPasses, passesRelation}
 
 -- A pass holds just the places of its box.
 
@@ -81,5 +79,16 @@ hull-holds (s ∷ rest) b p (inr t) =
     hull-holds rest (hullOf b (passBox s)) p
     (⊎-elim (λ here. inl (hull-law b (passBox s) .second p (decides-pass s p .0 here))) (λ there. inr there) (or-cases (passSet s p) (passesSet rest p) t))
 
+-- and lies in whatever holds both
+hull-lies : (xs : List Pass) (b c : Option Cell) → Part b c → ((p : Place) → passesSet xs p ≡ true → Holds c p) → Part (hullWith b xs) c
+hull-lies [] b c part held = part
+hull-lies (s ∷ rest) b c part held =
+    hull-lies rest (hullOf b (passBox s)) c
+    (hull-law b (passBox s) .least c part (λ p h. held p (or-left (passSet s p) (passesSet rest p) (decides-pass s p .1 h))))
+    (λ p t. held p (or-right (passSet s p) (passesSet rest p) t))
+
+pub passes-hull : (xs : List Pass) → HullOfPasses xs (passesBound xs)
+passes-hull xs = record { all = λ p t. hull-holds xs None p (inr t); least = λ c held. hull-lies xs None c (λ p h. absurd h) held }
+
 pub passes-facts : (xs : List Pass) → Facts (oneLeaf (passesSet xs) (passesBound xs) (passesRelation xs))
-passes-facts xs = one-leaf-facts (passesSet xs) (passesBound xs) (passesRelation xs) (λ p t. hull-holds xs None p (inr t)) (passes-say xs)
+passes-facts xs = one-leaf-facts (passesSet xs) (passesBound xs) (passesRelation xs) (passes-hull xs .all) (passes-say xs)

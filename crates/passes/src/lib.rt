@@ -3,7 +3,7 @@
 mod pass;
 
 ghost use mathlib.Core.Path.{_≡_};
-ghost use Rattle.passes.specs.Passes.{passSet, passesSet, passBox, passesBound, passesRelation};
+ghost use Rattle.passes.specs.Passes.{passSet, passesSet, passBox, passesBound, HullOfPasses, passesRelation};
 use grid::BarePlace;
 use grid::Cell;
 use grid::Place;
@@ -51,7 +51,8 @@ fn some_pass_holds(passes: &[Pass], place: Place) -> bool
 }
 
 fn hull_of(passes: &[Pass]) -> Option<Cell>
-    ensures { λ r. ⌜ r ≡ passesBound (now (passes .entry)) ⌝ }
+    ensures is { λ r. ⌜ r ≡ passesBound (now (passes .entry)) ⌝ }
+    ensures law { λ r. ⌜ HullOfPasses (now (passes .entry)) r ⌝ }
 {
     let mut hull = None;
     for pass in passes {
@@ -88,7 +89,8 @@ pub fn some_holds(passes: &[Pass], place: Place) -> bool
 
 // The hull of the passes, each cut by the grid.
 pub fn hull(passes: &[Pass]) -> Option<Cell>
-    ensures { λ r. ⌜ r ≡ passesBound (now (passes .entry)) ⌝ }
+    ensures is { λ r. ⌜ r ≡ passesBound (now (passes .entry)) ⌝ }
+    ensures law { λ r. ⌜ HullOfPasses (now (passes .entry)) r ⌝ }
 {
     hull_of(passes)
 }

@@ -1,9 +1,10 @@
-use mathlib.Core.Path.{sym, ap, ap₂, _∙_}
+use mathlib.Core.Path.{sym, ap, subst, _∙_}
 use lib.ListN.{drop}
 use Prim.Native.Nat.{_+_}
 use Rattle.std.proofs.shelf.Lists.{at-drop-more, at-drop-all}
 use Rattle.grid.specs.Cells.{hullOf}
-use Rattle.passes.specs.Passes.{hullWith}
+use Rattle.passes.specs.Passes.{hullWith, HullOfPasses}
+use Rattle.passes.proofs.PassLaws.{passes-hull}
 use Rattle.passes.proofs.hull_of.Needs as need
 
 pub loop-pass-again : need.loop-pass-again
@@ -15,5 +16,6 @@ loop-pass-again c =
 
 pub returns : need.returns
 returns c =
-    sym (at-drop-all (hullWith (c .loop-pass .hull)) (c .args .passes .now) (c .loop-pass .pass-index) (c .loop-pass-test .left))
-    ∙ c .loop-pass .inv
+    let passes = c .args .passes .now in
+    let is = sym (at-drop-all (hullWith (c .loop-pass .hull)) passes (c .loop-pass .pass-index) (c .loop-pass-test .left)) ∙ c .loop-pass .inv in
+    record { is = is; law = subst (HullOfPasses passes) (sym is) (passes-hull passes) }
