@@ -5,6 +5,7 @@ mod of_charts;
 mod of_grid;
 mod of_passes;
 mod of_pieces;
+mod of_rib;
 mod of_shapes;
 
 use grid::BarePlace;
