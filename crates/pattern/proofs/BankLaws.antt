@@ -11,7 +11,7 @@ use Rattle.grid.specs.Laws.{Holds}
 use Rattle.pattern.specs.declared.relation.Relation.{Relation}
 use Rattle.pattern.specs.Sets.{PlaceSet, leafSet}
 use Rattle.pattern.specs.Relations.{Says}
-use Rattle.pattern.specs.Banks.{Meaning, Facts, oneLeaf}
+use Rattle.pattern.specs.Banks.{Facts, oneLeaf}
 
 module _ (s : PlaceSet) (b : Option Cell) (r : Cell → Relation) (bounds : (p : Place) → s p ≡ true → Holds b p) (relates : (c : Cell) → Says (r c) s c) where
   one-bounds : (leaf : ℕ) (p : Place) → leafSet (oneLeaf s b r .sets) leaf p ≡ true → Holds (oneLeaf s b r .bound leaf) p

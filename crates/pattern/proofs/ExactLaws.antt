@@ -15,7 +15,7 @@ use Rattle.grid.specs.declared.cell.Cell.{Cell}
 use Rattle.grid.specs.declared.place.Place.{Place}
 use Rattle.grid.specs.Axes.{top, along, below}
 use Rattle.grid.specs.Places.{at, place-if, placeFrom}
-use Rattle.grid.specs.Cells.{lo, side, In, single}
+use Rattle.grid.specs.Cells.{lo, side, single}
 use Rattle.grid.proofs.PlaceLaws.{along-is, placeFrom-is}
 use Rattle.grid.proofs.Meanings.{low-in, decides-single}
 use Rattle.pattern.specs.declared.relation.Relation.{Relation}

@@ -1,7 +1,7 @@
 -- How a set of places lies to a cell: what a relation says, and the relation that is exact.
 use Prim.Native.Nat.{ℕ, zero, suc, _+_}
 use mathlib.Core.Path.{_≡_}
-use mathlib.Core.Bool.{Bool, true, false, not, cond, _&&_}
+use mathlib.Core.Bool.{Bool, true, false, cond, _&&_}
 use mathlib.Core.Logic.{_↔_}
 use Rattle.std.specs.declared.option.Option.{Option}
 use Rattle.std.specs.declared.option.Option.the-variants.{Some, None}
@@ -60,11 +60,12 @@ abbrev pub boxSet : Option Cell → PlaceSet
 boxSet (Some b) p = inside p b
 boxSet None p = false
 
--- The possible cell holds all of the other, or meets it.
+-- The possible cell holds all of the other.
 abbrev pub boxHolds : Option Cell → Cell → Bool
 boxHolds (Some b) c = within c b
 boxHolds None c = false
 
+-- The possible cell has a place in common with the other.
 abbrev pub boxMeets : Option Cell → Cell → Bool
 boxMeets (Some b) c = meet c b
 boxMeets None c = false

@@ -1,8 +1,7 @@
 -- A rib owes what every bank owes. Assumes nothing.
 use mathlib.Core.Path.{_≡_, ap, _∙_}
-use mathlib.Core.Bool.{Bool, true, false, cond}
-use mathlib.Core.Logic.{⊎-elim}
-use Prim.Native.Nat.{_%_, _<_}
+use mathlib.Core.Bool.{false, cond}
+use Prim.Native.Nat.{_%_}
 use native.Mathlib.Omega.{arith}
 use lib.Dec.{eqb, ltb}
 use Rattle.std.proofs.shelf.Tests.{cond-both, ltb-true, ltb-false}
@@ -10,7 +9,7 @@ use Rattle.grid.specs.declared.axis.Axis.the-variants.{Needle}
 use Rattle.grid.specs.declared.cell.Cell.{Cell}
 use Rattle.grid.specs.declared.place.Place.{Place}
 use Rattle.grid.specs.Places.{at}
-use Rattle.grid.specs.Cells.{lo, hi, In, single, gridCell}
+use Rattle.grid.specs.Cells.{lo, hi, In, gridCell}
 use Rattle.grid.proofs.PlaceLaws.{below-fails}
 use Rattle.grid.proofs.Meanings.{in-grid}
 use Rattle.std.specs.declared.option.Option.the-variants.{Some}
