@@ -1,3 +1,4 @@
 pub mod Courses
 pub mod Panel
 pub mod Quarters
+pub mod Words

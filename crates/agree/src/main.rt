@@ -3,7 +3,9 @@ mod panel;
 mod quarters;
 mod span;
 
+ghost use mathlib.Core.Path.{_≡_};
 ghost use Rattle.agree.specs.Courses.{CourseOf};
+ghost use Rattle.agree.specs.Words.{wordOf};
 use compare::Holder;
 use grid::BarePlace;
 use grid::Cell;
@@ -31,7 +33,9 @@ fn report_workspace(rt: &impl Print, workspace: &Cell) -> io::Result<()> {
 }
 
 // The word for a relation.
-fn word(relation: Relation) -> &'static str {
+fn word(relation: Relation) -> &'static str
+    ensures { λ r. ⌜ now r ≡ wordOf relation ⌝ }
+{
     match relation {
         Relation::Inside => "inside",
         Relation::Outside => "outside",
