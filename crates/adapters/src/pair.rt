@@ -12,8 +12,7 @@ use pattern::Relation;
 // The most leaves that count.
 const MOST: u16 = 65535;
 
-// Two patterns side by side: the leaves of the first, and then those of the second. Leaves after the 65,535th do not
-// count.
+// Two patterns side by side: the leaves of the first, and then those of the second. No more than 65,535 of them count.
 #[derive(Clone, Copy)]
 pub struct Pair<A, B> {
     pub first: A,

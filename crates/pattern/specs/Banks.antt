@@ -14,15 +14,16 @@ use Rattle.pattern.specs.declared.relation.Relation.the-variants.{Outside}
 use Rattle.pattern.specs.Sets.{PlaceSet, leafSet}
 use Rattle.pattern.specs.Relations.{Says}
 
--- The leaves' sets in order, a bound for each leaf, and a relation for each leaf and cell.
+-- What a bank's answers are read off: the sets of its leaves in turn, and with each leaf its bound and its relation to
+-- any cell.
 pub record Meaning : Type 0 where
   pub sets : List PlaceSet
   pub bound : ℕ → Option Cell
   pub relation : ℕ → Cell → Relation
 
--- What holds of the meaning of every bank. The bound of a leaf holds all its places; so it is none only if the leaf is
--- empty. The relation is Inside only if every place of the cell is in the leaf, Outside only if none is, and never Mixed
--- for a single place. A leaf that is not there has the bound none and the relation Outside.
+-- What holds of the meaning of every bank. A leaf's bound leaves out none of its places, so a leaf without a bound is
+-- empty. Inside is said of a cell only if the leaf has all of it, Outside only if it has nothing of it, and Mixed only of
+-- several places. Past the last leaf there is no bound, and the relation to every cell is Outside.
 pub record Facts (m : Meaning) : Type 0 where
   pub bounds : (leaf : ℕ) (p : Place) → leafSet (m .sets) leaf p ≡ true → Holds (m .bound leaf) p
   pub relates : (leaf : ℕ) (c : Cell) → Says (m .relation leaf c) (leafSet (m .sets) leaf) c

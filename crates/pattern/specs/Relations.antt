@@ -15,11 +15,11 @@ use Rattle.pattern.specs.declared.relation.Relation.{Relation}
 use Rattle.pattern.specs.declared.relation.Relation.the-variants.{Inside, Outside, Mixed}
 use Rattle.pattern.specs.Sets.{PlaceSet, without}
 
--- Every place of the cell is in the set.
+-- The set has every place of the cell.
 abbrev pub AllIn : PlaceSet → Cell → Type 0
 AllIn s c = (p : Place) → In p c → s p ≡ true
 
--- No place of the cell is in the set.
+-- The set has no place of the cell.
 abbrev pub NoneIn : PlaceSet → Cell → Type 0
 NoneIn s c = (p : Place) → In p c → s p ≡ false
 
@@ -44,7 +44,7 @@ abbrev pub ifThere : Option Place → PlaceSet → Bool
 ifThere (Some p) s = s p
 ifThere None s = true
 
--- Whether every place of the cell is in the set: its needles, courses and tracks are gone through one by one.
+-- Whether the set has every place of the cell: its needles, courses and tracks are gone through one by one.
 unfoldable pub allIn : PlaceSet → Cell → Bool
 allIn s c =
     every (lo c Needle) (side c Needle)

@@ -23,7 +23,7 @@ pub trait Pattern {
     fn leaves(&self) -> u16
         ensures { λ r. ⌜ r ≡ length (sets (now (self .entry))) ⌝ };
 
-    // Whether a place lies in a leaf; in one that is not there, none does.
+    // Whether a leaf has a place in its set; past the last leaf the answer is no.
     fn holds(&self, leaf: u16, place: Place) -> bool
         ensures { λ r. ⌜ r ≡ leafSet (sets (now (self .entry))) leaf place ⌝ };
 }
@@ -31,7 +31,7 @@ pub trait Pattern {
 // A pattern that can also tell where its leaves lie. Its answers are read off its meaning, so equal questions get equal
 // answers, and each of the first two says that the meaning's sets are the pattern's.
 pub trait Bank: Pattern {
-    // The leaves' sets again, with a bound for each leaf and a relation for each leaf and cell.
+    // The leaves' sets once more, and with each leaf its bound and its relation to any cell.
     ghost meaning: { Self → Meaning };
 
     // What every bank owes.

@@ -24,6 +24,6 @@ blockSet b p = between (numbers (b .low)) (at p) (numbers (b .high))
 unfoldable pub boundBetween : BarePlace → BarePlace → Option Cell
 boundBetween low high = boxOf (numbers low) (numbers high)
 
--- The bound of a block is the block cut by the grid.
+-- A block is bounded by what of it lies on the grid.
 abbrev pub blockBound : Block → Option Cell
 blockBound b = boundBetween (b .low) (b .high)

@@ -14,7 +14,7 @@ abbrev pub shapeSet : Shape → PlaceSet
 shapeSet (Block b) = blockSet b
 shapeSet (Slope s) = slopeSet s
 
--- The bound of a block is the block cut by the grid, and that of a slope is the grid.
+-- A block is bounded by what of it lies on the grid, a slope by the whole grid.
 abbrev pub shapeBound : Shape → Option Cell
 shapeBound (Block b) = blockBound b
 shapeBound (Slope s) = Some gridCell

@@ -10,8 +10,8 @@ use grid::Cell;
 use grid::Place;
 use pattern::Relation;
 
-// The places that are on no axis below the low or above the high end. With a low end above its high end it is empty;
-// either may lie off the grid.
+// The places that are on no axis below the low or above the high end. Where a low end is above its high end there are
+// none. Ends may lie off the grid.
 #[derive(Clone, Copy)]
 pub struct Block {
     pub low: BarePlace,

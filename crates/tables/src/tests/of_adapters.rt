@@ -35,7 +35,7 @@ use shapes::Block;
 use shapes::Shape;
 use std::test::*;
 
-// Needles from 4 on, on track 1: at pitch 2.5 needle 4 stands at the closed edge.
+// Needles from 4 on, on track 1: four needles of 2.5 millimetres reach just to the closed edge.
 const PIECE: Piece = Piece {
     track: 1,
     pitch: 2.5,
