@@ -10,7 +10,7 @@ use lib.Dec.{leb}
 use Rattle.std.proofs.shelf.Tests.{and-from, and-cases, le-leb, leb-false, true≢false}
 use Rattle.std.proofs.shelf.Ways.{tells}
 use Rattle.std.specs.Orderings.{Decides}
-use Rattle.std.specs.declared.option.Option.the-variants.{Some, None}
+use Rattle.std.specs.declared.option.Option.the-variants.{Some}
 use Rattle.grid.specs.declared.axis.Axis.{Axis}
 use Rattle.grid.specs.declared.axis.Axis.the-variants.{Needle, Course, Track}
 use Rattle.grid.specs.declared.place.Place.{Place}
@@ -55,12 +55,5 @@ place-if-is : (f : Axis → ℕ) (p : Place) → ((x : Axis) → at p x ≡ f x)
 place-if-is f p same true e t = ap Some (place-ext p _ (λ x. same x ∙ sym (along-is f x)))
 place-if-is f p same false e t = absurd (true≢false (sym t))
 
-place-if-none : (f : Axis → ℕ) (b : Bool) (e : below f top ≡ b) → b ≡ false → None ≡ place-if f b e
-place-if-none f true e t = absurd (true≢false t)
-place-if-none f false e t = refl
-
 pub placeFrom-is : (f : Axis → ℕ) (p : Place) → ((x : Axis) → at p x ≡ f x) → Some p ≡ placeFrom f
 placeFrom-is f p same = place-if-is f p same (below f top) refl (below-from f top (λ x. omega (arith, same x, p .«on_grid» x)))
-
-pub placeFrom-none : (f : Axis → ℕ) → below f top ≡ false → None ≡ placeFrom f
-placeFrom-none f off = place-if-none f (below f top) refl off

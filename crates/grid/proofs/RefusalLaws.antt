@@ -3,7 +3,7 @@ use mathlib.Core.Path.{_≡_, refl, sym, ap, ap₂, subst, fun-ext, _∙_}
 use mathlib.Core.Bool.{Bool, true, false, cond, _&&_}
 use Prim.Native.Nat.{ℕ, min}
 use native.Mathlib.Omega.{arith}
-use Rattle.std.proofs.shelf.Tests.{and-from, and-left, and-right, cond-true, cond-false}
+use Rattle.std.proofs.shelf.Tests.{and-from, cond-true}
 use Rattle.std.specs.declared.option.Option.{Option}
 use Rattle.std.specs.declared.option.Option.the-variants.{Some, None}
 use Rattle.std.specs.declared.result.Result.{Result}
@@ -51,17 +51,6 @@ workspace-between low high p q e f =
     let h : Taken (numbers high) (Ok q) = subst (Taken (numbers high)) (sym f) (placeOf-taken high) in
     ap (λ o. orRefuse o 4) (ap₂ cellFrom (fun-ext (l .1)) (fun-ext (h .1)))
     ∙ sym (cond-true (below (numbers low) top && below (numbers high) top) (orRefuse (cellFrom (numbers low) (numbers high)) 4) (Err 3) (and-from (below (numbers low) top) (below (numbers high) top) (l .0) (h .0)))
-
--- one end was refused: so is the workspace, with the same number
-pub workspace-low : (low high : BarePlace) (n : ℕ) → Err n ≡ placeOf low → Err n ≡ workspaceOf low high
-workspace-low low high n e =
-    let l : Taken (numbers low) (Err n) = subst (Taken (numbers low)) (sym e) (placeOf-taken low) in
-    ap Err (l .1) ∙ sym (cond-false (below (numbers low) top && below (numbers high) top) (orRefuse (cellFrom (numbers low) (numbers high)) 4) (Err 3) (and-left (below (numbers low) top) (below (numbers high) top) (l .0)))
-
-pub workspace-high : (low high : BarePlace) (n : ℕ) → Err n ≡ placeOf high → Err n ≡ workspaceOf low high
-workspace-high low high n e =
-    let h : Taken (numbers high) (Err n) = subst (Taken (numbers high)) (sym e) (placeOf-taken high) in
-    ap Err (h .1) ∙ sym (cond-false (below (numbers low) top && below (numbers high) top) (orRefuse (cellFrom (numbers low) (numbers high)) 4) (Err 3) (and-right (below (numbers low) top) (below (numbers high) top) (h .0)))
 
 -- A workspace has the ends that were asked for.
 abbrev pub Ended : (Axis → ℕ) → (Axis → ℕ) → Result Cell ℕ → Type 0
