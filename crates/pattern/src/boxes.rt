@@ -1,10 +1,10 @@
-// How boxes lie to cells. The public call stands below the function that does its work.
+// How boxes lie to cells. The public call stands below the functions that do its work.
 ghost use mathlib.Core.Path.{_≡_};
 ghost use Rattle.pattern.specs.Relations.{Exact, boxSet, boxRelation};
 use crate::relation::Relation;
 use grid::Cell;
 
-fn relation_of_box(part: Option<Cell>, cell: Cell) -> Relation
+fn by_tests(part: Option<Cell>, cell: Cell) -> Relation
     ensures { λ r. ⌜ r ≡ boxRelation part cell ⌝ }
 {
     let Some(part) = part else {
@@ -17,6 +17,14 @@ fn relation_of_box(part: Option<Cell>, cell: Cell) -> Relation
     } else {
         Relation::Outside
     }
+}
+
+// The same, which is exact.
+fn relation_of_box(part: Option<Cell>, cell: Cell) -> Relation
+    ensures is { λ r. ⌜ r ≡ boxRelation part cell ⌝ }
+    ensures exact { λ r. ⌜ Exact r (boxSet part) cell ⌝ }
+{
+    by_tests(part, cell)
 }
 
 impl Relation {

@@ -28,7 +28,7 @@ fn measure(number: u16, step: f64) -> f64
     number as f64 * step
 }
 
-fn passes_low(edge: Edge, measure: f64) -> bool
+fn compares_low(edge: Edge, measure: f64) -> bool
     ensures { λ r. ⌜ r ≡ fromLow edge measure ⌝ }
 {
     match edge {
@@ -38,7 +38,7 @@ fn passes_low(edge: Edge, measure: f64) -> bool
     }
 }
 
-fn passes_high(edge: Edge, measure: f64) -> bool
+fn compares_high(edge: Edge, measure: f64) -> bool
     ensures { λ r. ⌜ r ≡ toHigh edge measure ⌝ }
 {
     match edge {
@@ -46,6 +46,22 @@ fn passes_high(edge: Edge, measure: f64) -> bool
         Edge::Closed(at) => measure <= at,
         Edge::Free => true,
     }
+}
+
+// The same, which is passed only between numbers.
+fn passes_low(edge: Edge, measure: f64) -> bool
+    ensures is { λ r. ⌜ r ≡ fromLow edge measure ⌝ }
+    ensures numbers { λ r. ⌜ (r ≡ true → Numbers edge measure) ⌝ }
+{
+    compares_low(edge, measure)
+}
+
+// The same, which is passed only between numbers.
+fn passes_high(edge: Edge, measure: f64) -> bool
+    ensures is { λ r. ⌜ r ≡ toHigh edge measure ⌝ }
+    ensures numbers { λ r. ⌜ (r ≡ true → Numbers edge measure) ⌝ }
+{
+    compares_high(edge, measure)
 }
 
 impl Edge {
