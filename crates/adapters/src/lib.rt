@@ -1,4 +1,6 @@
 // Banks and patterns made from others: a pattern lifted to a bank, and two banks side by side.
+#![tactic(auto)]
+
 mod lifted;
 mod pair;
 

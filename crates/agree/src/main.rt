@@ -1,4 +1,6 @@
 // Compares the stitch chart of an intarsia panel with the carriage program that should knit it.
+#![tactic(auto)]
+
 mod panel;
 mod quarters;
 mod span;

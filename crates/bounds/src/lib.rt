@@ -1,4 +1,6 @@
 // Checked trees with a bound at each node: the first bounds, tightening, covering leaves and the judgement of a cell.
+#![tactic(auto)]
+
 mod bounded_node;
 mod calls;
 mod changes;

@@ -1,4 +1,6 @@
 // Two patterns compared place by place: the first leaf of the one with the first leaf of the other.
+#![tactic(auto)]
+
 ghost use Rattle.std.specs.Prelude.{◌≡◌, ◌≤◌, ◌↔◌, Decides};
 ghost use Rattle.grid.specs.Cells.{places_of};
 ghost use Rattle.grid.specs.Counts.{Counted};

@@ -1,4 +1,6 @@
 // The knitting grid: places, the cells that hold them, and what is done with cells.
+#![tactic(auto)]
+
 mod axis;
 mod bare;
 mod cell;

@@ -1,3 +1,4 @@
 pub mod Charts
 pub mod PassLists
+pub mod ShapeListLaws
 pub mod ShapeLists

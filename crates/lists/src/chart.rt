@@ -1,5 +1,6 @@
 // Charts: all stitches together are the one leaf.
 ghost use Rattle.std.specs.Prelude.{◌≡◌};
+ghost use Rattle.charts.proofs.ChartLaws.{chart_facts};
 ghost use Rattle.lists.specs.Charts.{frame, frame_of, bytes_of, leaves_of, meaning_of};
 
 use charts::Frame;
@@ -39,6 +40,8 @@ impl<'a> Pattern for Chart<'a> {
 
 impl<'a> Bank for Chart<'a> {
     ghost meaning = { meaning_of };
+
+    ghost facts = { λ c. chart_facts (frame_of c) (bytes_of c) };
 
     fn bound(&self, leaf: u16) -> Option<Cell> {
         if leaf == 0 {

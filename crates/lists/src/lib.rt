@@ -1,4 +1,6 @@
 // Shape lists, pass lists and charts: records in the caller's memory as banks.
+#![tactic(auto)]
+
 mod chart;
 mod pass_list;
 mod pass_lists;

@@ -1,5 +1,6 @@
 // Pass lists: all passes together are the one leaf.
 ghost use Rattle.std.specs.Prelude.{◌≡◌};
+ghost use Rattle.passes.proofs.PassLaws.{passes_facts};
 ghost use Rattle.lists.specs.PassLists.{listed, leaves_of, meaning_of};
 
 use crate::pass_list::PassList;
@@ -33,6 +34,8 @@ impl<'a> Pattern for PassList<'a> {
 
 impl<'a> Bank for PassList<'a> {
     ghost meaning = { meaning_of };
+
+    ghost facts = { λ l. passes_facts (listed l) };
 
     fn bound(&self, leaf: u16) -> Option<Cell> {
         if leaf == 0 { self.hull } else { None }

@@ -3,6 +3,7 @@ ghost use Rattle.std.specs.Prelude.{◌≡◌, length};
 ghost use Rattle.pattern.specs.Sets.{leaf_set};
 ghost use Rattle.pattern.specs.Relations.{exactly};
 ghost use Rattle.shapes.specs.Shapes.{possible_set, possible_bound};
+ghost use Rattle.lists.specs.ShapeListLaws.{shapes_facts};
 ghost use Rattle.lists.specs.ShapeLists.{sets_of, bound_at, listed, leaves_of, meaning_of};
 
 use grid::{Cell, Place};
@@ -88,6 +89,8 @@ impl<'a> Pattern for ShapeList<'a> {
 
 impl<'a> Bank for ShapeList<'a> {
     ghost meaning = { meaning_of };
+
+    ghost facts = { λ l. shapes_facts (listed l) };
 
     fn bound(&self, leaf: u16) -> Option<Cell> {
         possible_bound(shape_at(self.shapes, leaf))

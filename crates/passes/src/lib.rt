@@ -1,5 +1,7 @@
 // Carriage passes: the places that they knit, the hull of these, and how they lie to a cell. The public calls over passes
 // stand below the functions that do their work.
+#![tactic(auto)]
+
 mod pass;
 
 ghost use Rattle.std.specs.Prelude.{◌≡◌};

@@ -1,4 +1,6 @@
 // What patterns and banks of stitch places are, whatever they are made of.
+#![tactic(auto)]
+
 mod boxes;
 mod relation;
 

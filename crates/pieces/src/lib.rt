@@ -1,4 +1,6 @@
 // Measured pieces as a pattern of one leaf: garment parts given by their edges in millimetres.
+#![tactic(auto)]
+
 mod edge;
 
 ghost use Rattle.std.specs.Prelude.{◌≡◌, true};

@@ -1,4 +1,6 @@
 // A bank of one's own, as an example: a one-by-one rib, the stitches of every other needle.
+#![tactic(auto)]
+
 ghost use Rattle.rib.specs.Rib.{leaves_of, meaning_of};
 ghost use Rattle.rib.specs.RibLaws.{rib_facts};
 

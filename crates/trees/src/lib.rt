@@ -1,4 +1,6 @@
 // Trees of set operations: their nodes as they are handed over, the checks, and the test of one place.
+#![tactic(auto)]
+
 mod bare;
 mod checks;
 mod fault;

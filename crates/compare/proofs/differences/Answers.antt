@@ -4,8 +4,8 @@ use Rattle.compare.specs.Compare.{first_leaf}
 use Rattle.compare.proofs.Sameness.{same_from_none, none_in_first, none_in_second}
 use Rattle.compare.proofs.differences.Goals as goal
 
-pub overflow-add-result : goal.overflow-add-result
-overflow-add-result g c = record { fits = omega (arith, places_most c.args.cell, c.count.ensures.few, c.count-2.ensures.few) }
+pub overflow_add-result : goal.overflow_add-result
+overflow_add-result g c = record { fits = omega (arith, places_most c.args.cell, c.count.ensures.few, c.count-2.ensures.few) }
 
 pub returns : goal.returns
 returns g c =

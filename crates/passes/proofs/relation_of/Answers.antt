@@ -7,15 +7,15 @@ use Rattle.passes.proofs.relation_of.Goals.{in-Mixed, in-Outside}
 
 pub returns-in-Inside : goal.returns-in-Inside
 returns-in-Inside c =
-    let told = c.of-box.ensures.is ∙ ap (λ o. box_relation o c.args.cell) c.on_grid.ensures in
+    let told = c.of_box.ensures.is ∙ ap (λ o. box_relation o c.args.cell) c.on_grid.ensures in
     sym (settled c.args.cell c.args.passes.now c.loop-pass.pass-index _ c.loop-pass-test.true c.loop-pass.met _ told c.in-Inside.is)
     ∙ c.loop-pass.invariant
 
 pub loop-pass-preserved : goal.loop-pass-preserved
 loop-pass-preserved c =
-    let told = c.of-box.ensures.is ∙ ap (λ o. box_relation o c.args.cell) c.on_grid.ensures in
+    let told = c.of_box.ensures.is ∙ ap (λ o. box_relation o c.args.cell) c.on_grid.ensures in
     let rest = drop (c.loop-pass.pass-index + 1) c.args.passes.now in
-    elim c.match-of-box.branch [
+    elim c.match-of_box.branch [
       | in-Mixed w ↦
           ap (λ m. onward c.args.cell m rest) w.met-is
           ∙ met_one c.args.cell c.args.passes.now c.loop-pass.pass-index _ c.loop-pass-test.true c.loop-pass.met _ told w.in-Mixed.is

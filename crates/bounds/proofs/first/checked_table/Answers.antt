@@ -15,14 +15,14 @@ returns g c =
     let m = g.B.Bank.meaning c.args.bank.now in
     let bare = c.args.nodes.now in
     let workspace = c.args.workspace in
-    let sound : Sound (length sets) bare = c.in-ok-check.ensures.law in
+    let sound : Sound (length sets) bare = c.in_ok-check.ensures.law in
     let is = c.first_table.ensures.is in
     record {
-      is = ap Ok is ∙ accepted (tree_fault (length sets) bare) (tt {0}) (first_bounds m workspace bare) c.in-ok-check.ensures.is;
+      is = ap Ok is ∙ accepted (tree_fault (length sets) bare) (tt {0}) (first_bounds m workspace bare) c.in_ok-check.ensures.is;
       law = (
-        subst (λ s. Sound (length s) bare) (sym c.own-sets.ensures) sound,
+        subst (λ s. Sound (length s) bare) (sym c.own_sets.ensures) sound,
         λ p. subst (λ t. root_set m.sets t p ≡ (inside p workspace && tree_set m.sets (nodes_from bare) p)) (sym is) (first_root m (g.met.B.Bank.facts c.args.bank.now) workspace bare sound.tree p),
       );
-      own = c.own-sets.ensures;
+      own = c.own_sets.ensures;
       kept = good_first m workspace bare _ sound.tree is c.first_table.ensures.count;
     }

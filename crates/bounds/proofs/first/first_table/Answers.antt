@@ -6,7 +6,7 @@ use Rattle.bounds.proofs.first.first_table.Goals as goal
 
 pub loop-number-preserved : goal.loop-number-preserved
 loop-number-preserved g c = (
-  filled_more (λ b. first_node (g.B.Bank.meaning c.args.bank.now) c.args.workspace (node_from b)) c.loop-number.table.nodes c.args.nodes.now c.loop-number.number _ _ (omega (arith, c.requires, c.loop-number.invariant.2, c.loop-number-test.true)) c.loop-number-test.true c.first-node.ensures c.loop-number.invariant.0,
+  filled_more (λ b. first_node (g.B.Bank.meaning c.args.bank.now) c.args.workspace (node_from b)) c.loop-number.table.nodes c.args.nodes.now c.loop-number.number _ _ (omega (arith, c.requires, c.loop-number.invariant.2, c.loop-number-test.true)) c.loop-number-test.true c.first_node.ensures c.loop-number.invariant.0,
   c.loop-number.invariant.1,
   length-set c.loop-number.table.nodes c.loop-number.number _ ∙ c.loop-number.invariant.2,
 )

@@ -5,11 +5,11 @@ use Rattle.grid.proofs.Meanings.{box_law}
 use Rattle.grid.proofs.RefusalLaws.{box_between, box_none}
 use Rattle.grid.proofs.cells.boxed.Goals as goal
 
-pub returns-in-default : goal.returns-in-default
-returns-in-default c =
+pub returns-in_default : goal.returns-in_default
+returns-in_default c =
     let low = numbers c.args.low in
     let high = numbers c.args.high in
-    let is = box_none c.args.low c.args.high _ c.in-default.ensures in
+    let is = box_none c.args.low c.args.high _ c.in_default.ensures in
     record { is = is; law = subst (BoxLaw low high) (sym is) (box_law low high) }
 
 pub returns : goal.returns

@@ -6,4 +6,4 @@ use Rattle.grid.proofs.cells.is_single.Goals as goal
 pub returns : goal.returns
 returns c =
     let s = c.args.cell in
-    record { is = c.is-below.ensures; law = Decides-at _ (single s) c.is-below.ensures (decides_single s) }
+    record { is = c.is_below.ensures; law = Decides-at _ (single s) c.is_below.ensures (decides_single s) }

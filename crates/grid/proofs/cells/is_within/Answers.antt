@@ -4,4 +4,4 @@ use Rattle.grid.proofs.Meanings.{within_law}
 use Rattle.grid.proofs.cells.is_within.Goals as goal
 
 pub returns : goal.returns
-returns c = record { is = c.are-below.ensures; law = subst (WithinLaw c.args.cell c.args.other) (sym c.are-below.ensures) (within_law c.args.cell c.args.other) }
+returns c = record { is = c.are_below.ensures; law = subst (WithinLaw c.args.cell c.args.other) (sym c.are_below.ensures) (within_law c.args.cell c.args.other) }

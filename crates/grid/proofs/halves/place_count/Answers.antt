@@ -7,7 +7,7 @@ use Rattle.grid.proofs.halves.place_count.Goals as goal
 
 pub returns : goal.returns
 returns c =
-    let is : c.side-of.result * c.side-of-2.result * c.side-of-3.result ≡ places_of c.args.cell = ap₂ ◌*◌ (ap₂ ◌*◌ c.side-of.ensures c.side-of-2.ensures) c.side-of-3.ensures in
+    let is : c.side_of.result * c.side_of-2.result * c.side_of-3.result ≡ places_of c.args.cell = ap₂ ◌*◌ (ap₂ ◌*◌ c.side_of.ensures c.side_of-2.ensures) c.side_of-3.ensures in
     record {
       is = is;
       most = omega (arith, is, places_most c.args.cell);

@@ -1,7 +1,7 @@
 -- The leaves are as many as the shapes that count.
 use Rattle.std.proofs.Common.{sym, ◌∙◌}
 use Rattle.shapes.specs.Shapes.{shape_set}
-use Rattle.lists.proofs.ShapeListLaws.{counted_length}
+use Rattle.lists.specs.ShapeListLaws.{counted_length}
 use Rattle.lists.proofs.shape_list.counted.Goals as goal
 
 pub returns : goal.returns

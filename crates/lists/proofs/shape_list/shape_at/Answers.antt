@@ -2,7 +2,7 @@
 use Rattle.std.proofs.Common.{◌<◌, ◌≤◌, min, length, None, sym, arith}
 use Rattle.pattern.specs.Sets.{nowhere}
 use Rattle.shapes.specs.Shapes.{shape_set, shape_bound}
-use Rattle.lists.proofs.ShapeListLaws.{counted_length, counted_at, counted_past}
+use Rattle.lists.specs.ShapeListLaws.{counted_length, counted_at, counted_past}
 use Rattle.lists.proofs.shape_list.shape_at.Goals as goal
 
 pub bounds-shapes-leaf : goal.bounds-shapes-leaf

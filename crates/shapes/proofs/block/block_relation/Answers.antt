@@ -10,6 +10,6 @@ pub returns : goal.returns
 returns c =
     let b = c.args.block in
     let cell = c.args.cell in
-    let is : c.of-box.result ≡ box_relation (block_bound b) cell = c.of-box.ensures.is ∙ ap (λ o. box_relation o cell) c.bound.ensures in
-    let exact : Exact c.of-box.result (block_set b) cell = subst (λ r. Exact r (block_set b) cell) (sym is) (block_exact b cell) in
-    record { is = is_exactly (block_set b) cell c.of-box.result exact; exact = exact }
+    let is : c.of_box.result ≡ box_relation (block_bound b) cell = c.of_box.ensures.is ∙ ap (λ o. box_relation o cell) c.bound.ensures in
+    let exact : Exact c.of_box.result (block_set b) cell = subst (λ r. Exact r (block_set b) cell) (sym is) (block_exact b cell) in
+    record { is = is_exactly (block_set b) cell c.of_box.result exact; exact = exact }

@@ -4,4 +4,4 @@ use Rattle.shapes.proofs.block.bound_between.Goals as goal
 
 pub returns : goal.returns
 unfolding bound_between
-returns c = c.from-box.ensures.is
+returns c = c.from_box.ensures.is

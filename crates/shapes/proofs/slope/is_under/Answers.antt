@@ -4,11 +4,11 @@ use lib.Signed.{le_z}
 use Rattle.std.proofs.lemmas.Int.{ints, to_z-of_z}
 use Rattle.shapes.proofs.slope.is_under.Goals as goal
 
-pub overflow-add-result : goal.overflow-add-result
-overflow-add-result c = omega (arith, ints)
+pub overflow_add-result : goal.overflow_add-result
+overflow_add-result c = omega (arith, ints)
 
-pub overflow-add-result-2 : goal.overflow-add-result-2
-overflow-add-result-2 c =
+pub overflow_add-result-2 : goal.overflow_add-result-2
+overflow_add-result-2 c =
     let n = c.product-needle.result in
     let k = c.product-course.result in
     let t = c.product-track.result in

@@ -16,4 +16,4 @@ returns c =
     let wide : SFits w64 f = omega (arith, ints) in
     let whole : SFits w64 (f *ℤ pos n) = omega (arith, ints) in
     let plain : to_z w64 n ≡ pos n = to_z_pos w64 n (omega arith) in
-    simp (narrow, to_z-of_z w64 f wide, plain, to_z-of_z w64 (f *ℤ pos n) whole) (record { is = refl; not-above = above; not-below = below })
+    simp (narrow, to_z-of_z w64 f wide, plain, to_z-of_z w64 (f *ℤ pos n) whole) (record { is = refl; not_above = above; not_below = below })

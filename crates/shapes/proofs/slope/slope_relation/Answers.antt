@@ -10,6 +10,6 @@ pub returns : goal.returns
 returns c =
     let s = c.args.slope in
     let cell = c.args.cell in
-    let r = c.relation-by-corners.result in
-    let exact : Exact r (slope_set s) cell = subst (λ r. Exact r (slope_set s) cell) (sym c.relation-by-corners.ensures) (slope_exact s cell) in
+    let r = c.relation_by_corners.result in
+    let exact : Exact r (slope_set s) cell = subst (λ r. Exact r (slope_set s) cell) (sym c.relation_by_corners.ensures) (slope_exact s cell) in
     record { is = is_exactly (slope_set s) cell r exact; exact = exact }

@@ -12,7 +12,7 @@ returns-in-Some c =
 pub loop-bare-preserved : goal.loop-bare-preserved
 loop-bare-preserved c = (
   ap (λ k. k + 1) c.loop-bare.invariant.0,
-  sym (fault_next c.args.nodes.now c.loop-bare.bare-index _ c.loop-bare-test.true c.args.leaves c.loop-bare.number _ c.in-default.ensures)
+  sym (fault_next c.args.nodes.now c.loop-bare.bare-index _ c.loop-bare-test.true c.args.leaves c.loop-bare.number _ c.in_default.ensures)
       ∙ c.loop-bare.invariant.1,
 )
 

@@ -10,5 +10,5 @@ returns-in-Some c =
 
 pub loop-child-preserved : goal.loop-child-preserved
 loop-child-preserved c =
-    sym (parent_next (nodes_from c.args.nodes.now) c.loop-child.child (length c.args.nodes.now - 1) c.loop-child-test.true _ c.in-default.ensures)
+    sym (parent_next (nodes_from c.args.nodes.now) c.loop-child.child (length c.args.nodes.now - 1) c.loop-child-test.true _ c.in_default.ensures)
     ∙ c.loop-child.invariant

@@ -8,15 +8,15 @@ use Rattle.trees.proofs.test.+is_in.Goals as goal
 as_many : (bare : List BareNode) (i : ℕ) → i < length bare → i < length (nodes_from bare)
 as_many bare i h = omega (arith, length-map bare node_from)
 
-pub is-in-in-left-requires : goal.is-in-in-left-requires
-is-in-in-left-requires g t c κs within =
+pub is_in-in_left-requires : goal.is_in-in_left-requires
+is_in-in_left-requires g t c κs within =
     let bare = c.args.nodes.now in
     let h = c.requires.0 in
     let below = inner_below (nodes_from bare) c.requires.1 _ _ _ _ (as_many bare _ h) (node_from_is bare _ _ h c.in-Inner.ensures) in
     (omega (arith, c.decreases, below.0), (within, (omega (arith, below.0), c.requires.1)))
 
-pub is-in-requires : goal.is-in-requires
-is-in-requires g t c κs within =
+pub is_in-requires : goal.is_in-requires
+is_in-requires g t c κs within =
     let bare = c.args.nodes.now in
     let h = c.requires.0 in
     let below = inner_below (nodes_from bare) c.requires.1 _ _ _ _ (as_many bare _ h) (node_from_is bare _ _ h c.in-Inner.ensures) in
@@ -28,17 +28,17 @@ returns-in-Leaf g t c =
     let h = c.requires.0 in
     c.holds.ensures ∙ sym (set_leaf _ (nodes_from bare) c.args.place _ _ (as_many bare _ h) (node_from_is bare _ _ h c.in-Leaf.ensures))
 
-pub returns-then-asks-right : goal.returns-then-asks-right
-returns-then-asks-right g t c =
+pub returns-then-asks_right : goal.returns-then-asks_right
+returns-then-asks_right g t c =
     let bare = c.args.nodes.now in
     let h = c.requires.0 in
     c.joined.ensures
-    ∙ asked_both _ (nodes_from bare) c.args.place c.requires.1 c.args.number _ _ _ (as_many bare _ h) (node_from_is bare _ _ h c.in-Inner.ensures) _ c.is-in-in-left.ensures _ c.is-in.ensures
+    ∙ asked_both _ (nodes_from bare) c.args.place c.requires.1 c.args.number _ _ _ (as_many bare _ h) (node_from_is bare _ _ h c.in-Inner.ensures) _ c.is_in-in_left.ensures _ c.is_in.ensures
 
-pub returns-else-asks-right : goal.returns-else-asks-right
-returns-else-asks-right g t c =
+pub returns-else-asks_right : goal.returns-else-asks_right
+returns-else-asks_right g t c =
     let bare = c.args.nodes.now in
     let h = c.requires.0 in
-    c.joined-else-asks-right.ensures
-    ∙ asked_left _ (nodes_from bare) c.args.place c.requires.1 c.args.number _ _ _ (as_many bare _ h) (node_from_is bare _ _ h c.in-Inner.ensures) _ c.is-in-in-left.ensures
-    (sym c.asks-right.ensures ∙ c.if-asks-right.false)
+    c.joined-else-asks_right.ensures
+    ∙ asked_left _ (nodes_from bare) c.args.place c.requires.1 c.args.number _ _ _ (as_many bare _ h) (node_from_is bare _ _ h c.in-Inner.ensures) _ c.is_in-in_left.ensures
+    (sym c.asks_right.ensures ∙ c.if-asks_right.false)

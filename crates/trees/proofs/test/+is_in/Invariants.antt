@@ -1,4 +1,4 @@
 use Rattle.trees.proofs.test.+is_in.Given as goal
 
-abbrev pub decreases-is-in : goal.decreases-is-in
-decreases-is-in g l = l.number
+abbrev pub decreases-is_in : goal.decreases-is_in
+decreases-is_in g l = l.number

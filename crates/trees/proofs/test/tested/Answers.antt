@@ -9,5 +9,5 @@ pub returns : goal.returns
 returns g c =
     let sets = g.P.Pattern.sets c.args.pattern.now in
     let bare = c.args.nodes.now in
-    ap Ok (c.is-in.ensures ∙ ap (λ n. node_set sets (nodes_from bare) n c.args.place) (root_from bare))
-    ∙ accepted (tree_fault (length sets) bare) (tt {0}) _ c.in-ok-check.ensures.is
+    ap Ok (c.is_in.ensures ∙ ap (λ n. node_set sets (nodes_from bare) n c.args.place) (root_from bare))
+    ∙ accepted (tree_fault (length sets) bare) (tt {0}) _ c.in_ok-check.ensures.is

@@ -12,15 +12,15 @@ pub returns-in-Outside : goal.returns-in-Outside
 returns-in-Outside g t c =
     let table = c.args.self.now in
     let here = in_table table c.requires.0 _ c.requires.1 in
-    judged_missed (g.B.Bank.meaning c.args.bank.now) (entries table) (good_tree c.args.self.now c.requires.0) c.args.cell c.args.number here _ c.entry-entry.ensures (sym c.of-box-bound.ensures.is ∙ c.in-Outside.is)
+    judged_missed (g.B.Bank.meaning c.args.bank.now) (entries table) (good_tree c.args.self.now c.requires.0) c.args.cell c.args.number here _ c.entry-entry.ensures (sym c.of_box-bound.ensures.is ∙ c.in-Outside.is)
 
-pub judge-at-left-requires : goal.judge-at-left-requires
-judge-at-left-requires g t c κs within =
+pub judge_at-left-requires : goal.judge_at-left-requires
+judge_at-left-requires g t c κs within =
     let below = shown_below c.args.self.now c.requires.0 c.args.number _ _ _ _ c.requires.1 c.entry-entry.ensures c.in-Inner.is in
     (omega (arith, c.decreases, below.0), (within, (c.requires.0, omega (arith, below.0, c.requires.1))))
 
-pub judge-at-requires : goal.judge-at-requires
-judge-at-requires g t c κs within =
+pub judge_at-requires : goal.judge_at-requires
+judge_at-requires g t c κs within =
     let below = shown_below c.args.self.now c.requires.0 c.args.number _ _ _ _ c.requires.1 c.entry-entry.ensures c.in-Inner.is in
     (omega (arith, c.decreases, below.1), (within, (c.requires.0, omega (arith, below.1, c.requires.1))))
 
@@ -31,16 +31,16 @@ returns-in-Leaf g t c =
     let node = judged_leaf (g.B.Bank.meaning c.args.bank.now) (entries table) (good_tree c.args.self.now c.requires.0) c.args.cell c.args.number here _ c.entry-entry.ensures _ c.in-Leaf.is in
     cc
 
-pub returns-then-asks-right : goal.returns-then-asks-right
-returns-then-asks-right g t c =
+pub returns-then-asks_right : goal.returns-then-asks_right
+returns-then-asks_right g t c =
     let table = c.args.self.now in
     let here = in_table table c.requires.0 _ c.requires.1 in
-    let node = judged_both (g.B.Bank.meaning c.args.bank.now) (entries table) (good_tree c.args.self.now c.requires.0) c.args.cell c.args.number here _ c.entry-entry.ensures _ _ _ c.in-Inner.is _ c.judge-at-left.ensures _ c.judge-at.ensures in
+    let node = judged_both (g.B.Bank.meaning c.args.bank.now) (entries table) (good_tree c.args.self.now c.requires.0) c.args.cell c.args.number here _ c.entry-entry.ensures _ _ _ c.in-Inner.is _ c.judge_at-left.ensures _ c.judge_at.ensures in
     cc
 
-pub returns-else-asks-right : goal.returns-else-asks-right
-returns-else-asks-right g t c =
+pub returns-else-asks_right : goal.returns-else-asks_right
+returns-else-asks_right g t c =
     let table = c.args.self.now in
     let here = in_table table c.requires.0 _ c.requires.1 in
-    let node = judged_left (g.B.Bank.meaning c.args.bank.now) (entries table) (good_tree c.args.self.now c.requires.0) c.args.cell c.args.number here _ c.entry-entry.ensures _ _ _ c.in-Inner.is _ c.judge-at-left.ensures (cc) in
+    let node = judged_left (g.B.Bank.meaning c.args.bank.now) (entries table) (good_tree c.args.self.now c.requires.0) c.args.cell c.args.number here _ c.entry-entry.ensures _ _ _ c.in-Inner.is _ c.judge_at-left.ensures (cc) in
     cc

@@ -1,4 +1,4 @@
 use Rattle.bounds.proofs.table.NodeTable.+judge_at.Given as goal
 
-abbrev pub decreases-judge-at : goal.decreases-judge-at
-decreases-judge-at g l = l.number
+abbrev pub decreases-judge_at : goal.decreases-judge_at
+decreases-judge_at g l = l.number

@@ -1,4 +1,4 @@
 use Rattle.bounds.proofs.table.NodeTable.+leaf_count.Given as goal
 
-abbrev pub decreases-leaf-count : goal.decreases-leaf-count
-decreases-leaf-count l = l.number
+abbrev pub decreases-leaf_count : goal.decreases-leaf_count
+decreases-leaf_count l = l.number

@@ -6,13 +6,13 @@ use Rattle.bounds.proofs.table.NodeTable.cut_upward.Goals as goal
 pub loop-number-init : goal.loop-number-init
 loop-number-init c = (upward_none (entries c.args.self.now), refl)
 
-pub cut-by-children-requires : goal.cut-by-children-requires
-cut-by-children-requires c =
+pub cut_by_children-requires : goal.cut_by_children-requires
+cut_by_children-requires c =
     let start = entries c.args.self.now in
     (good_like c.args.self.now c.loop-number.self c.requires c.loop-number.invariant.1 (ap nodes_in c.loop-number.invariant.0 ∙ nodes_upward c.loop-number.number start), omega arith)
 
 pub loop-number-preserved : goal.loop-number-preserved
 loop-number-preserved c = (
-  upward_more c.loop-number.number (entries c.args.self.now) (entries c.loop-number.self) _ c.loop-number.invariant.0 c.cut-by-children.ensures.is,
-  c.cut-by-children.ensures.count ∙ c.loop-number.invariant.1,
+  upward_more c.loop-number.number (entries c.args.self.now) (entries c.loop-number.self) _ c.loop-number.invariant.0 c.cut_by_children.ensures.is,
+  c.cut_by_children.ensures.count ∙ c.loop-number.invariant.1,
 )

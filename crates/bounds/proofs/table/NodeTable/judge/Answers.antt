@@ -14,9 +14,9 @@ returns g c =
     let t = c.args.self.now in
     let table = entries t in
     let root : t.count - 1 ≡ root_of table = ap (λ n. n - 1) (sym c.requires.whole) in
-    let is : c.judge-at.result ≡ judged m table c.args.cell = c.judge-at.ensures ∙ ap (judged_at m table c.args.cell) root in
+    let is : c.judge_at.result ≡ judged m table c.args.cell = c.judge_at.ensures ∙ ap (judged_at m table c.args.cell) root in
     record {
       is = is;
       law = subst (λ r. Says r (root_set m.sets table) c.args.cell) (sym is) (judged_says m (g.met.B.Bank.facts c.args.bank.now) table (good_tree t c.requires) c.args.cell (root_of table) (omega (arith, c.requires.whole, c.requires.some)));
-      own = c.own-sets.ensures;
+      own = c.own_sets.ensures;
     }

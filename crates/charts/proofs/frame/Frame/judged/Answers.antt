@@ -8,6 +8,6 @@ use Rattle.charts.proofs.frame.Frame.judged.Goals as goal
 pub returns : goal.returns
 returns c =
     let s = stitch_set c.args.self.now c.args.bytes.now in
-    let held = c.seen-in.result.held in
-    let free = c.seen-in.result.free in
-    c.relation.ensures ∙ is_exactly s c.args.cell (seen_relation held free) (shown_exact s c.args.cell held free c.seen-in.ensures)
+    let held = c.seen_in.result.held in
+    let free = c.seen_in.result.free in
+    c.relation.ensures ∙ is_exactly s c.args.cell (seen_relation held free) (shown_exact s c.args.cell held free c.seen_in.ensures)

@@ -5,9 +5,9 @@ use Rattle.charts.specs.Charts.{stitch_set}
 use Rattle.charts.proofs.SeenLaws.{column_joined, row_shown, row_settled}
 use Rattle.charts.proofs.frame.Frame.row.Goals as goal
 
-pub returns-then-is-settled : goal.returns-then-is-settled
-returns-then-is-settled c =
-    row_settled (stitch_set c.args.self.now c.args.bytes.now) c.args.cell c.loop-needle.needle c.args.course c.loop-needle.seen.held c.loop-needle.seen.free c.if-is-settled.ensures
+pub returns-then-is_settled : goal.returns-then-is_settled
+returns-then-is_settled c =
+    row_settled (stitch_set c.args.self.now c.args.bytes.now) c.args.cell c.loop-needle.needle c.args.course c.loop-needle.seen.held c.loop-needle.seen.free c.if-is_settled.ensures
     c.loop-needle.invariant
 
 pub loop-needle-preserved : goal.loop-needle-preserved

@@ -8,9 +8,9 @@ use Rattle.charts.proofs.frame.Frame.seen_in.Goals as goal
 pub loop-course-init : goal.loop-course-init
 loop-course-init c = start_shown (stitch_set c.args.self.now c.args.bytes.now) c.args.cell c.course-course.result (cc)
 
-pub returns-then-is-settled : goal.returns-then-is-settled
-returns-then-is-settled c =
-    cell_settled (stitch_set c.args.self.now c.args.bytes.now) c.args.cell (lo c.args.cell Needle) c.loop-course.course c.loop-course.seen.held c.loop-course.seen.free c.if-is-settled.ensures
+pub returns-then-is_settled : goal.returns-then-is_settled
+returns-then-is_settled c =
+    cell_settled (stitch_set c.args.self.now c.args.bytes.now) c.args.cell (lo c.args.cell Needle) c.loop-course.course c.loop-course.seen.held c.loop-course.seen.free c.if-is_settled.ensures
     c.loop-course.invariant
 
 pub returns : goal.returns
