@@ -1,6 +1,6 @@
 -- What covers a node, and that it does. Assumes nothing.
-use Rattle.std.proofs.Common.{◌≡◌, ℕ, ◌+◌, ◌<◌, Bool, true, false, cond, ◌&&◌, ◌||◌, eqb, leb, ◌⊎◌, List, length, get_or, sym, refl, ap, ◌∙◌, inl, inr, ⊎_elim, arith}
-use Rattle.std.proofs.lemmas.Bool.{and_parts, or_cases, or_left, or_right, eqb-true, eq-eqb, cases_Bool, cond_both, cond-true, cond-false, false≢true}
+use Rattle.std.proofs.Common.{◌≡◌, ℕ, ◌+◌, ◌<◌, Bool, true, false, ◌&&◌, eqb, leb, ◌⊎◌, List, length, sym, refl, ap, ◌∙◌, inl, inr, ⊎_elim, arith}
+use Rattle.std.proofs.lemmas.Bool.{and_parts, or_cases, or_left, or_right, eqb-true, eq-eqb, cases_Bool, cond_both, cond-true, cond-false}
 use Rattle.grid.specs.declared.place.Place.{Place}
 use Rattle.grid.specs.Laws.{Holds}
 use Rattle.pattern.specs.Sets.{PlaceSet}
@@ -14,9 +14,8 @@ use Rattle.trees.specs.Sets.{joins, root_of}
 use Rattle.trees.proofs.ValueLaws.{rising, value_leaf, value_inner}
 use Rattle.trees.proofs.TreeLaws.{inner_below}
 use Rattle.bounds.specs.declared.bounded_node.BoundedNode.{BoundedNode}
-use Rattle.bounds.specs.Tables.{nodes_in, blank, bound_at}
-use Rattle.bounds.specs.Tightening.{Among}
-use Rattle.bounds.specs.Covering.{Cover, covers_inner, cover_rule, cover_at, covering_leaves}
+use Rattle.bounds.specs.Tables.{nodes_in, bound_at}
+use Rattle.bounds.specs.Covering.{Cover, covers_inner, cover_rule, cover_at}
 use Rattle.bounds.specs.Laws.{CoverLaw}
 use Rattle.bounds.proofs.TableLaws.{nodes_count, entry_node, inner_lower}
 use Rattle.bounds.proofs.PassingLaws.{passing_just}

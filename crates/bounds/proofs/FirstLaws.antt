@@ -1,16 +1,15 @@
 -- The first bounds leave of a tree's set just what lies in the workspace. Assumes nothing.
-use Rattle.std.proofs.Common.{◌≡◌, ℕ, ◌+◌, ◌<◌, ◌≤◌, Bool, true, false, ◌&&◌, List, [], ◌∷◌, ◌++◌, map, length, get_or, take, set, Some, Option, sym, refl, ap, ◌∙◌, subst, ⊎_elim, arith}
+use Rattle.std.proofs.Common.{◌≡◌, ℕ, ◌+◌, ◌<◌, Bool, true, false, ◌&&◌, List, [], ◌∷◌, ◌++◌, map, length, get_or, take, set, Some, sym, refl, ap, ◌∙◌, subst, arith}
 use Rattle.std.proofs.lemmas.List.{get_or-map, length-map, take_more, take_more_set, take_all}
 use Rattle.std.proofs.lemmas.Bool.{false≢true}
 use Rattle.grid.specs.declared.cell.Cell.{Cell}
 use Rattle.grid.specs.declared.place.Place.{Place}
 use Rattle.grid.specs.Cells.{inside}
-use Rattle.pattern.specs.Sets.{PlaceSet, leaf_set}
+use Rattle.pattern.specs.Sets.{leaf_set}
 use Rattle.pattern.specs.Relations.{box_set}
 use Rattle.pattern.specs.Banks.{Meaning, Facts}
 use Rattle.trees.specs.declared.bare.BareNode.{BareNode}
 use Rattle.trees.specs.declared.node.Operation.{Operation}
-use Rattle.trees.specs.declared.node.Operation.TheVariants.{Union, Both, Less, Differ}
 use Rattle.trees.specs.declared.node.Node.{Node}
 use Rattle.trees.specs.declared.node.Node.TheVariants.{Leaf, Inner}
 use Rattle.trees.specs.Nodes.{node_from, nodes_from, node_at, children_below, times_named, Tree}
@@ -24,7 +23,7 @@ use Rattle.bounds.specs.Sets.{root_set}
 use Rattle.bounds.specs.First.{first_bound, first_node, first_bounds}
 use Rattle.bounds.proofs.TableLaws.{nodes_count}
 use Rattle.bounds.proofs.BoxLaws.{decides_box, box_cut}
-use Rattle.bounds.proofs.SetLaws.{node_in, uncut, has, has_is}
+use Rattle.bounds.proofs.SetLaws.{uncut, has, has_is}
 
 -- one node more of a table that is filled from a list
 pub filled_more : (f : BareNode → BoundedNode) (slots : List BoundedNode) (bare : List BareNode) (i : ℕ) (d : BareNode) (y : BoundedNode) → i < length slots → i < length bare → y ≡ f (get_or bare i d) → take i slots ≡ take i (map f bare) → take (i + 1) (set slots i y) ≡ take (i + 1) (map f bare)

@@ -1,5 +1,5 @@
 -- What a judgement is worked out from, and what it says. Assumes nothing.
-use Rattle.std.proofs.Common.{◌≡◌, ℕ, ◌<◌, Bool, true, false, not, ◌&&◌, ◌||◌, List, length, get_or, Option, sym, refl, ap, ◌∙◌, subst, arith}
+use Rattle.std.proofs.Common.{◌≡◌, ℕ, ◌<◌, Bool, true, false, not, ◌&&◌, ◌||◌, List, length, get_or, sym, refl, ap, ◌∙◌, subst, arith}
 use Rattle.std.proofs.lemmas.Bool.{true≢false, not_from_true, not_from_false, or_left, or_right, or_from}
 use Rattle.grid.specs.declared.cell.Cell.{Cell}
 use Rattle.grid.specs.declared.place.Place.{Place}
@@ -20,7 +20,7 @@ use Rattle.trees.proofs.ValueLaws.{rising, value_leaf, value_inner}
 use Rattle.bounds.specs.declared.bounded_node.BoundedNode.{BoundedNode}
 use Rattle.bounds.specs.Tables.{nodes_in, blank, bound_at}
 use Rattle.bounds.specs.Sets.{cut_set, bounded_rule, bounded_set}
-use Rattle.bounds.specs.Judgement.{opposite, union_of, both_of, less_of, differ_of, join_relations, judge_rule, judged_at, asks_right}
+use Rattle.bounds.specs.Judgement.{opposite, union_of, both_of, differ_of, join_relations, judge_rule, judged_at, asks_right}
 use Rattle.bounds.proofs.TableLaws.{inner_lower}
 
 -- Where the second child is not asked, it does not matter.

@@ -1,12 +1,11 @@
 -- Narrowing and the bounded sets, at one place. Assumes nothing.
-use Rattle.std.proofs.Common.{◌≡◌, ℕ, suc, ◌+◌, ◌<◌, ◌≤◌, Bool, true, false, cond, ◌&&◌, ◌≢◌, ◌⊎◌, List, length, get_or, set, Option, sym, refl, ap, ◌∙◌, subst, ⊎_elim, arith, length-set, get_or-set_other, get_or-set_same}
+use Rattle.std.proofs.Common.{◌≡◌, ℕ, ◌<◌, Bool, true, false, cond, ◌&&◌, ◌≢◌, List, length, get_or, Option, sym, refl, ap, ◌∙◌, subst, ⊎_elim, arith, length-set, get_or-set_other, get_or-set_same}
 use Rattle.std.proofs.lemmas.Bool.{and_parts, and_left, eq-eqb, cases_eq, cases_Bool, false≢true}
 use Rattle.grid.specs.declared.cell.Cell.{Cell}
 use Rattle.grid.specs.declared.place.Place.{Place}
 use Rattle.grid.specs.Laws.{Holds}
 use Rattle.pattern.specs.Sets.{PlaceSet, leaf_set}
 use Rattle.pattern.specs.Relations.{box_set}
-use Rattle.trees.specs.declared.node.Operation.{Operation}
 use Rattle.trees.specs.declared.node.Node.{Node}
 use Rattle.trees.specs.declared.node.Node.TheVariants.{Leaf, Inner}
 use Rattle.trees.specs.Nodes.{Tree, once, names, children_below}
@@ -14,7 +13,7 @@ use Rattle.trees.specs.Sets.{joins}
 use Rattle.trees.proofs.ValueLaws.{rising, value_leaf, value_inner}
 use Rattle.trees.proofs.TreeLaws.{below_parts}
 use Rattle.bounds.specs.declared.bounded_node.BoundedNode.{BoundedNode}
-use Rattle.bounds.specs.Tables.{nodes_in, blank, bound_at, cut_both, cut_node, narrowed}
+use Rattle.bounds.specs.Tables.{nodes_in, blank, bound_at, cut_node, narrowed}
 use Rattle.bounds.specs.Sets.{bounded_rule, bounded_set}
 use Rattle.bounds.proofs.TableLaws.{nodes_count, entry_node, inner_lower}
 use Rattle.bounds.proofs.NodeLaws.{nodes_narrowed}

@@ -1,5 +1,5 @@
 -- What a tightening keeps, and what it changes. Assumes nothing.
-use Rattle.std.proofs.Common.{◌≡◌, ℕ, zero, suc, ◌-◌, ◌<◌, ◌≤◌, Bool, true, false, cond, not, ◌&&◌, ◌≢◌, ◌↔◌, List, length, get_or, Some, None, Decides, Option, sym, refl, ap, ◌∙◌, subst, ⊎_elim, arith}
+use Rattle.std.proofs.Common.{◌≡◌, ℕ, zero, suc, ◌<◌, ◌≤◌, true, cond, ◌&&◌, ◌≢◌, ◌↔◌, List, length, get_or, Some, None, Decides, Option, sym, refl, ap, ◌∙◌, subst, ⊎_elim, arith}
 use Rattle.std.proofs.lemmas.List.{set_past}
 use Rattle.std.proofs.lemmas.Bool.{and_parts, and_from, eq-eqb, cases_eq, cases_lt, false≢true}
 use Rattle.std.proofs.lemmas.Bool.Decides.{Decides-not}
@@ -13,7 +13,6 @@ use Rattle.grid.proofs.CellLaws.{cell_ext}
 use Rattle.grid.proofs.Meanings.{decides_within}
 use Rattle.pattern.specs.Sets.{PlaceSet}
 use Rattle.pattern.specs.Relations.{box_set}
-use Rattle.trees.specs.declared.node.Operation.{Operation}
 use Rattle.trees.specs.declared.node.Node.{Node}
 use Rattle.trees.specs.declared.node.Node.TheVariants.{Leaf, Inner}
 use Rattle.trees.specs.Nodes.{Tree, node_at, once, names}
@@ -21,11 +20,10 @@ use Rattle.trees.specs.Sets.{joins, root_of}
 use Rattle.trees.proofs.ParentLaws.{one_parent}
 use Rattle.bounds.specs.declared.bounded_node.BoundedNode.{BoundedNode}
 use Rattle.bounds.specs.Tables.{nodes_in, blank, bound_at, cut_node, narrowed}
-use Rattle.bounds.specs.Sets.{bounded_set, root_set}
+use Rattle.bounds.specs.Sets.{root_set}
 use Rattle.bounds.specs.Tightening.{reach, cut_by_children, cut_children, upward, downward, tightened, same_bound, is_changed, Among, changed_nodes}
-use Rattle.bounds.specs.Laws.{TightenLaw}
 use Rattle.bounds.proofs.TableLaws.{nodes_count, entry_node, inner_lower}
-use Rattle.bounds.proofs.NodeLaws.{nodes_by_children, nodes_children, nodes_upward, nodes_downward}
+use Rattle.bounds.proofs.NodeLaws.{nodes_children, nodes_upward, nodes_downward}
 use Rattle.bounds.proofs.PassingLaws.{passing_just}
 use Rattle.bounds.proofs.BoxLaws.{cut_part, reach_holds}
 use Rattle.bounds.proofs.SetLaws.{node_in, uncut, has, has_is, has_in, narrowed_other, narrowed_same, narrowed_length, narrowed_tree, narrow_keeps, narrow_child}

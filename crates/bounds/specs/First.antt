@@ -1,5 +1,5 @@
 -- The first bounds of a tree.
-use Rattle.std.specs.Prelude.{ℕ, List, map, Some, Option}
+use Rattle.std.specs.Prelude.{List, map, Some, Option}
 use Rattle.grid.specs.declared.cell.Cell.{Cell}
 use Rattle.pattern.specs.Banks.{Meaning}
 use Rattle.trees.specs.declared.bare.BareNode.{BareNode}

@@ -88,8 +88,8 @@ impl Frame {
 
     // What the cell's row at a course shows together with the rows before it, as far as needed to settle the answer.
     fn row(&self, bytes: &[u8], cell: Cell, course: u16, before: Seen) -> Seen
-        requires cell_bound { (lo cell Course ≤ course) × (course ≤ hi cell Course) }
-        requires shows { Shows (Before cell (lo cell Needle) course) (stitch_set self.now bytes.now) before.held before.free }
+        requires in_cell { (lo cell Course ≤ course) × (course ≤ hi cell Course) }
+        requires shown { Shows (Before cell (lo cell Needle) course) (stitch_set self.now bytes.now) before.held before.free }
         ensures { Shows (Before cell (lo cell Needle) (course + 1)) (stitch_set self.now bytes.now) result.held result.free }
     {
         let mut seen = before;

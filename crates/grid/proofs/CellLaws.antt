@@ -25,7 +25,7 @@ cell_if_is : (low high : Axis → ℕ) (c : Cell) → ((x : Axis) → lo c x ≡
 cell_if_is low high c lows highs true e t = ap Some (cell_ext c _ (λ x. lows x ∙ sym (along_is low x)) (λ x. highs x ∙ sym (along_is high x)))
 cell_if_is low high c lows highs false e t = absurd (true≢false (sym t))
 
--- the cell with these ends is the one that `cellFrom` finds
+-- the cell with these ends is the one that `cell_from` finds
 pub cell_from_is : (low high : Axis → ℕ) (c : Cell) → ((x : Axis) → lo c x ≡ low x) → ((x : Axis) → hi c x ≡ high x) → Some c ≡ cell_from low high
 cell_from_is low high c lows highs =
     cell_if_is low high c lows highs (ends_fit low high) refl
@@ -39,7 +39,7 @@ cell_if_none low high false e t = refl
 pub cell_from_none : (low high : Axis → ℕ) → below low high ≡ false → None ≡ cell_from low high
 cell_from_none low high above = cell_if_none low high (ends_fit low high) refl (and_left (below low high) (below high top) above)
 
--- What `cellFrom` finds: a cell with the ends asked for, or none and an axis that shows why.
+-- What `cell_from` finds: a cell with the ends asked for, or none and an axis that shows why.
 abbrev pub Found : (Axis → ℕ) → (Axis → ℕ) → Option Cell → Type 0
 Found low high (Some c) = ((x : Axis) → lo c x ≡ low x) × ((x : Axis) → hi c x ≡ high x)
 Found low high None = (x : Axis) × ((high x < low x) ⊎ (top x < high x))

@@ -1,5 +1,5 @@
--- Banks over memory that the caller owns. The toolchain proves a block with a lifetime only for a trait without a law,
--- so such a bank's block is put together by hand; this lemma is the step that its methods share. Assumes nothing.
+-- Banks over memory that the caller owns: a method's promise goes from the bank's own lifetime to the one that the trait
+-- knows. A block with a lifetime that is put together by hand shows each of its methods so. Assumes nothing.
 use Rattle.std.proofs.Common.{ℕ, List, [], ◌∷◌}
 use seplogic.Ra.Ura.{Ura}
 use base.Fml.{Lft}

@@ -85,8 +85,8 @@ pub outside_exact : (s : PlaceSet) (c : Cell) → NoneIn s c → Exact Outside s
 outside_exact s c none = record { inside = (λ e. let z : ◌≡◌ {A = ℕ} 0 1 = cc in absurd (omega arith), λ all. absurd (not_both s c all none)); outside = (λ _. none, λ _. refl) }
 
 pub mixed_exact : (s : PlaceSet) (c : Cell) → (AllIn s c → ⊥) → (NoneIn s c → ⊥) → Exact Mixed s c
-mixed_exact s c Some-out some_in = record {
-  inside = (λ e. let z : ◌≡◌ {A = ℕ} 0 1 = cc in absurd (omega arith), λ all. absurd (Some-out all));
+mixed_exact s c some_out some_in = record {
+  inside = (λ e. let z : ◌≡◌ {A = ℕ} 0 1 = cc in absurd (omega arith), λ all. absurd (some_out all));
   outside = (λ e. let z : ◌≡◌ {A = ℕ} 0 1 = cc in absurd (omega arith), λ none. absurd (some_in none));
 }
 
@@ -113,9 +113,9 @@ is_exactly s c r e = exact_same s c r (exactly s c) e (exactly_exact s c)
 
 -- in a cell of one place all or none is in the set
 single_decided : (s : PlaceSet) (c : Cell) → single c ≡ true → (AllIn s c → ⊥) → (NoneIn s c → ⊥) → ⊥
-single_decided s c one Some-out some_in =
+single_decided s c one some_out some_in =
     let only = (decides_single c).0 one in
-    ⊎_elim (λ t. Some-out (λ p i. ap s (only p i) ∙ t)) (λ f. some_in (λ p i. ap s (only p i) ∙ f)) (cases_Bool (s c.low))
+    ⊎_elim (λ t. some_out (λ p i. ap s (only p i) ∙ t)) (λ f. some_in (λ p i. ap s (only p i) ∙ f)) (cases_Bool (s c.low))
 
 pub exact_says : (s : PlaceSet) (c : Cell) (r : Relation) → Exact r s c → Says r s c
 exact_says s c Inside e = e.inside.0 refl

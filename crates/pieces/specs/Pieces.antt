@@ -1,5 +1,5 @@
 -- The places of a measured piece, by IEEE 754 double arithmetic.
-use Rattle.std.specs.Prelude.{◌≡◌, ℕ, Bool, true, ◌&&◌, List, [], ◌∷◌, pos, ◌==◌, ◌≢◌, Float}
+use Rattle.std.specs.Prelude.{ℕ, Bool, true, ◌&&◌, List, [], ◌∷◌, pos, ◌==◌, ◌≢◌, Float}
 use Rattle.std.specs.Float.{nan, binary64}
 use Rattle.std.specs.Float.Ieee.{of_int, mul, le, lt}
 use Rattle.grid.specs.declared.axis.Axis.TheVariants.{Needle, Course, Track}

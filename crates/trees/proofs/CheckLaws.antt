@@ -1,12 +1,12 @@
 -- The first fault of a tree is there and nothing before it is broken, and a tree with no fault is sound. Assumes nothing.
-use Rattle.std.proofs.Common.{◌≡◌, ℕ, zero, suc, ◌+◌, ◌-◌, ◌<◌, ◌≤◌, true, false, cond, ◌&&◌, ◌||◌, eqb, ltb, ◌⊎◌, List, length, drop, Some, None, Option, sym, refl, subst, inl, inr, ⊎_elim, arith}
+use Rattle.std.proofs.Common.{◌≡◌, ℕ, zero, suc, ◌+◌, ◌-◌, ◌<◌, ◌≤◌, true, false, cond, ◌&&◌, ◌||◌, eqb, ltb, List, length, drop, Some, None, Option, sym, refl, subst, inl, inr, ⊎_elim, arith}
 use Rattle.std.proofs.lemmas.List.{at_drop_all, get_or-map, length-map}
 use Rattle.std.proofs.lemmas.Bool.{cases_lt, cases_eq, cond_both, and_from, and_parts, and_cases, or_cases, or_parts, eqb-true, eqb-false, ltb-true, ltb-false, lt-ltb}
 use Rattle.trees.specs.declared.bare.BareNode.{BareNode}
 use Rattle.trees.specs.declared.node.Node.TheVariants.{Leaf, Inner}
 use Rattle.trees.specs.Nodes.{operation_of, node_from, nodes_from, children_below, times_named, Tree}
 use Rattle.trees.specs.Faults.{Told}
-use Rattle.trees.specs.Checks.{fault, or_else, node_fault, node_faults, parent_faults, tree_fault, answered, bare_at, Broken, size, operation, child, leaf, parent, turn, First, Sound, CheckLaw}
+use Rattle.trees.specs.Checks.{fault, or_else, node_fault, node_faults, parent_faults, tree_fault, answered, bare_at, Broken, size, operation, child, leaf, parent, turn, Sound, CheckLaw}
 use Rattle.trees.proofs.SearchLaws.{fault_next}
 
 -- The node at the number i has no fault of its own.

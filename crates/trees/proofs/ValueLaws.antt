@@ -3,7 +3,6 @@ use Rattle.std.proofs.Common.{◌≡◌, ℕ, zero, suc, ◌+◌, ◌<◌, List,
 use lib.Seq.{get_or-append_seam, take-append_seam}
 use Rattle.std.proofs.lemmas.List.{get_or_append_left, length_push, append-nil, append_assoc}
 use Rattle.trees.specs.declared.node.Operation.{Operation}
-use Rattle.trees.specs.declared.node.Node.{Node}
 use Rattle.trees.specs.declared.node.Node.TheVariants.{Leaf, Inner}
 use Rattle.trees.specs.Values.{worked, Rule, value_of, values, value_at}
 

@@ -1,8 +1,6 @@
 -- What is checked of a tree, in which order, and the test of a place.
 use Rattle.std.specs.Prelude.{◌≡◌, ℕ, zero, suc, ◌+◌, ◌-◌, ◌<◌, ◌≤◌, Bool, cond, ◌&&◌, ◌||◌, ◌⊎◌, List, [], ◌∷◌, length, Some, None, Ok, Err, Option, Result, ◌==◌, ◌≢◌, nat_lt, slice_index_or}
-use Rattle.grid.specs.declared.bare.BarePlace.{BarePlace}
 use Rattle.grid.specs.declared.place.Place.{Place}
-use Rattle.grid.specs.Refusals.{place_of}
 use Rattle.pattern.specs.Sets.{PlaceSet}
 use Rattle.trees.specs.declared.bare.BareNode.{BareNode}
 use Rattle.trees.specs.declared.node.Node.{Node}

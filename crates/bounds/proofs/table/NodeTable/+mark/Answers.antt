@@ -1,4 +1,4 @@
-use Rattle.std.proofs.Common.{◌<◌, sym, ◌∙◌, arith}
+use Rattle.std.proofs.Common.{◌<◌, arith}
 use Rattle.std.proofs.lemmas.Bool.{cond_both}
 use Rattle.bounds.specs.Tables.{entries, nodes_in}
 use Rattle.bounds.proofs.TableLaws.{good_tree, shown_below, seen_here, seen_node}

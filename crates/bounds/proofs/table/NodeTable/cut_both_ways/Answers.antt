@@ -1,9 +1,9 @@
-use Rattle.std.proofs.Common.{◌≡◌, length, sym, ap, ◌∙◌, subst}
+use Rattle.std.proofs.Common.{◌≡◌, sym, ap, ◌∙◌, subst}
 use Rattle.bounds.specs.Tables.{entries, nodes_in}
-use Rattle.bounds.specs.Tightening.{upward, downward, tightened}
+use Rattle.bounds.specs.Tightening.{tightened}
 use Rattle.bounds.specs.Laws.{TightenLaw}
 use Rattle.bounds.proofs.TableLaws.{good_tree}
-use Rattle.bounds.proofs.NodeLaws.{nodes_upward, nodes_downward, good_like}
+use Rattle.bounds.proofs.NodeLaws.{nodes_upward, good_like}
 use Rattle.bounds.proofs.RuleLaws.{tighten_law}
 use Rattle.bounds.proofs.table.NodeTable.cut_both_ways.Goals as goal
 

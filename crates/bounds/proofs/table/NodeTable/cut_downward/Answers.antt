@@ -1,4 +1,4 @@
-use Rattle.std.proofs.Common.{◌≡◌, ℕ, ◌-◌, get_or, sym, ap, ◌∙◌, arith}
+use Rattle.std.proofs.Common.{◌≡◌, ◌-◌, get_or, sym, ap, ◌∙◌, arith}
 use Rattle.bounds.specs.Tables.{entries, nodes_in, blank}
 use Rattle.bounds.specs.Tightening.{downward}
 use Rattle.bounds.proofs.NodeLaws.{nodes_children, downward_none, downward_more, good_like}
