@@ -20,15 +20,18 @@ either P n first second none leaf f s m =
     (λ t. m (ltb-false leaf 65535 t))
 
 pub length_pair : (a b : List PlaceSet) → length (side_by_side a b) ≡ min 65535 (length a + length b)
+unfolding side_by_side
 length_pair a b = length-take 65535 (a ++ b) ∙ ap (min 65535) (length-append a b)
 
 -- the set of a leaf of the two: one of the first, one of the second, or none
 
 module _ (a b : List PlaceSet) (leaf : ℕ) where
   pub first_set : leaf < 65535 → leaf < length a → leaf_set (side_by_side a b) leaf ≡ leaf_set a leaf
+  unfolding side_by_side
   first_set t u = get_or-take 65535 (a ++ b) leaf nowhere t ∙ get_or_append_left a b nowhere leaf u
 
   pub second_set : leaf < 65535 → length a ≤ leaf → leaf_set (side_by_side a b) leaf ≡ leaf_set b (leaf - length a)
+  unfolding side_by_side
   second_set t u = get_or-take 65535 (a ++ b) leaf nowhere t ∙ get_or-append_right a b (length a) leaf nowhere refl u
 
   pub no_set : 65535 ≤ leaf → leaf_set (side_by_side a b) leaf ≡ nowhere

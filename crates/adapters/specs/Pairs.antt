@@ -5,7 +5,7 @@ use Rattle.pattern.specs.Sets.{PlaceSet}
 use Rattle.pattern.specs.Banks.{Meaning}
 
 -- The leaves of the first and then those of the second, as far as the 65,535th.
-abbrev pub side_by_side : List PlaceSet → List PlaceSet → List PlaceSet
+unfoldable pub side_by_side : List PlaceSet → List PlaceSet → List PlaceSet
 side_by_side first second = take 65535 (first ++ second)
 
 -- What is known of a leaf, by its number: from the first while its n leaves last, then from the second, counted from

@@ -12,7 +12,7 @@ use Rattle.pattern.proofs.ExactLaws.{exactly_says, exactly_nowhere}
 use Rattle.shapes.specs.declared.shape.Shape.{Shape}
 use Rattle.shapes.specs.declared.shape.Shape.TheVariants.{Block, Slope}
 use Rattle.shapes.specs.Shapes.{shape_set, shape_bound}
-use Rattle.lists.specs.ShapeLists.{sets_of, meaning_of_shapes}
+use Rattle.lists.specs.ShapeLists.{counting, sets_of, meaning_of_shapes}
 use Rattle.shapes.proofs.BlockLaws.{decides_block}
 
 -- the values of the first n of a list: how many there are, the one at a number, and what is read past them
@@ -33,14 +33,32 @@ matched f g d e P each past (suc n) [] i = past
 matched f g d e P each past (suc n) (x ∷ xs) zero = each x
 matched f g d e P each past (suc n) (x ∷ xs) (suc i) = matched f g d e P each past n xs i
 
+-- the same of the shapes that count
+module _ {Y : Type 0} (f : Shape → Y) (shapes : List Shape) where
+  pub counting_length : length (counting f shapes) ≡ min (length shapes) 65535
+  unfolding counting
+  counting_length = counted_length f 65535 shapes
+
+  pub counting_at : (i : ℕ) (d : Shape) (e : Y) → i < min (length shapes) 65535 → get_or (counting f shapes) i e ≡ f (get_or shapes i d)
+  unfolding counting
+  counting_at = counted_at f 65535 shapes
+
+  pub counting_past : (i : ℕ) (e : Y) → min (length shapes) 65535 ≤ i → get_or (counting f shapes) i e ≡ e
+  unfolding counting
+  counting_past = counted_past f 65535 shapes
+
+counting_matched : {Y Z : Type 0} (f : Shape → Y) (g : Shape → Z) (d : Y) (e : Z) (P : Y → Z → Type 0) → ((s : Shape) → P (f s) (g s)) → P d e → (shapes : List Shape) (i : ℕ) → P (get_or (counting f shapes) i d) (get_or (counting g shapes) i e)
+unfolding counting
+counting_matched f g d e P each past shapes i = matched f g d e P each past 65535 shapes i
+
 shape_bounds : (p : Place) (s : Shape) → shape_set s p ≡ true → Holds (shape_bound s) p
 shape_bounds p (Block b) t = (decides_block b p).0 t
 shape_bounds p (Slope s) t = in_grid p
 
 pub shapes_facts : (shapes : List Shape) → Facts (meaning_of_shapes shapes)
 shapes_facts shapes = record {
-  bounds = λ leaf p. matched shape_set shape_bound nowhere None (λ s b. s p ≡ true → Holds b p) (shape_bounds p) (λ t. absurd (false≢true t)) 65535 shapes leaf;
+  bounds = λ leaf p. counting_matched shape_set shape_bound nowhere None (λ s b. s p ≡ true → Holds b p) (shape_bounds p) (λ t. absurd (false≢true t)) shapes leaf;
   relates = λ leaf c. exactly_says (leaf_set (sets_of shapes) leaf) c;
-  missing_bound = λ leaf h. counted_past shape_bound 65535 shapes leaf None (omega (arith, counted_length shape_set 65535 shapes));
+  missing_bound = λ leaf h. counting_past shape_bound shapes leaf None (omega (arith, counting_length shape_set shapes));
   missing_relation = λ leaf c h. ap (λ s. exactly s c) (get_or_past (sets_of shapes) leaf nowhere h) ∙ exactly_nowhere c;
 }

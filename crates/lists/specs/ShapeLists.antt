@@ -9,7 +9,7 @@ use Rattle.lists.specs.declared.shape_list.ShapeList.{ShapeList}
 use Rattle.shapes.specs.Shapes.{shape_set, shape_bound}
 
 -- A value of each shape that counts, in order.
-abbrev pub counting : {A : Type 0} → (Shape → A) → List Shape → List A
+unfoldable pub counting : {A : Type 0} → (Shape → A) → List Shape → List A
 counting f shapes = take 65535 (map f shapes)
 
 -- The sets of the shapes.
