@@ -1,5 +1,5 @@
 -- Two banks side by side owe what every bank owes, if each does. Assumes nothing.
-use Rattle.std.specs.Prelude.{◌≡◌, ℕ, ◌+◌, ◌-◌, ◌<◌, ◌≤◌, min, true, cond, List, ◌++◌, length, None, nat_lt, refl}
+use Rattle.std.specs.Prelude.{◌≡◌, ℕ, ◌+◌, ◌-◌, ◌<◌, ◌≤◌, min, true, false, cond, List, ◌++◌, length, None, nat_lt, refl}
 use Rattle.std.proofs.Common.{sym, ap, subst, ◌∙◌, arith}
 use Rattle.std.proofs.lemmas.List.{get_or-take, get_or_past, get_or_append_left, get_or-append_right, length-take, length-append}
 use Rattle.std.proofs.lemmas.Bool.{cond_both, ltb-true, ltb-false, false≢true}
@@ -23,6 +23,10 @@ pub length_pair : (a b : List PlaceSet) → length (side_by_side a b) ≡ min 65
 unfolding side_by_side
 length_pair a b = length-take 65535 (a ++ b) ∙ ap (min 65535) (length-append a b)
 
+-- what is known of the sets of each is known of the two
+pub pair_own : {a b s t : List PlaceSet} → a ≡ s → b ≡ t → side_by_side a b ≡ side_by_side s t
+pair_own e f = cc
+
 -- the set of a leaf of the two: one of the first, one of the second, or none
 
 module _ (a b : List PlaceSet) (leaf : ℕ) where
@@ -36,6 +40,13 @@ module _ (a b : List PlaceSet) (leaf : ℕ) where
 
   pub no_set : 65535 ≤ leaf → leaf_set (side_by_side a b) leaf ≡ nowhere
   no_set t = get_or_past (side_by_side a b) leaf nowhere (omega (arith, length_pair a b))
+
+-- so the two hold a place as from_either tells
+pub pair_set : (a b : List PlaceSet) (leaf : ℕ) (p : Place) → leaf_set (side_by_side a b) leaf p ≡ from_either (length a) (λ i. leaf_set a i p) (λ i. leaf_set b i p) false leaf
+pair_set a b leaf p =
+    let has = λ (s : PlaceSet). s p in
+    either (λ x. leaf_set (side_by_side a b) leaf p ≡ x) (length a) (λ i. leaf_set a i p) (λ i. leaf_set b i p) false leaf
+    (λ h k. ap has (first_set a b leaf h k)) (λ h k. ap has (second_set a b leaf h k)) (λ h. ap has (no_set a b leaf h))
 
 module _ (m n : Meaning) (fm : Facts m) (fn : Facts n) where
   pair_bounds : (leaf : ℕ) (p : Place) → leaf_set (pair_meaning m n).sets leaf p ≡ true → Holds ((pair_meaning m n).bound leaf) p

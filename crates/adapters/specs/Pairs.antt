@@ -3,6 +3,8 @@ use Rattle.std.specs.Prelude.{ℕ, ◌-◌, cond, List, ◌++◌, length, take, 
 use Rattle.pattern.specs.declared.relation.Relation.TheVariants.{Outside}
 use Rattle.pattern.specs.Sets.{PlaceSet}
 use Rattle.pattern.specs.Banks.{Meaning}
+use Rattle.adapters.specs.declared.pair.Owner.{Owner}
+use Rattle.adapters.specs.declared.pair.Owner.TheVariants.{First, Second, Neither}
 
 -- The leaves of the first and then those of the second, as far as the 65,535th.
 unfoldable pub side_by_side : List PlaceSet → List PlaceSet → List PlaceSet
@@ -12,6 +14,10 @@ side_by_side first second = take 65535 (first ++ second)
 -- there; past the 65,535th leaf it is `none`.
 abbrev pub from_either : {A : Type 0} → ℕ → (ℕ → A) → (ℕ → A) → A → ℕ → A
 from_either n first second none leaf = cond (nat_lt leaf 65535) (cond (nat_lt leaf n) (first leaf) (second (leaf - n))) none
+
+-- Whose leaf that is, and the number that it has there.
+abbrev pub owner_of : ℕ → ℕ → Owner
+owner_of n leaf = from_either n First Second Neither leaf
 
 -- The two meanings side by side.
 abbrev pub pair_meaning : Meaning → Meaning → Meaning

@@ -1,4 +1,5 @@
 // Any pattern as a bank that knows nothing but single places.
+ghost use Rattle.std.specs.Prelude.{refl};
 ghost use Rattle.adapters.specs.Lifted.{lifted_meaning};
 ghost use Rattle.adapters.specs.LiftedLaws.{lifted_facts};
 
@@ -6,7 +7,7 @@ use grid::{Cell, Place};
 use pattern::{Bank, Pattern, Relation};
 
 // A pattern as a bank: the bound of its leaves is the grid, and their relation is Mixed but for a single place.
-#[derive(Clone, Copy)]
+#[derive(Clone, Copy, PartialEq, Eq, Debug)]
 pub struct Lifted<P> {
     pub pattern: P,
 }
@@ -25,6 +26,8 @@ impl<P: Pattern> Pattern for Lifted<P> {
 
 impl<P: Pattern> Bank for Lifted<P> {
     ghost meaning = { λ l. lifted_meaning (P.Pattern.sets l.pattern) };
+
+    ghost own = { λ l. refl };
 
     ghost facts = { λ l. lifted_facts (P.Pattern.sets l.pattern) };
 
@@ -47,6 +50,4 @@ impl<P: Pattern> Bank for Lifted<P> {
             Relation::Outside
         }
     }
-
-    fn own_sets(&self) {}
 }

@@ -1,5 +1,10 @@
 -- The cell of a whole course. Assumes nothing.
-use Rattle.std.proofs.Common.{◌≡◌, ℕ, ◌≤◌, ◌↔◌, arith}
+use Rattle.std.proofs.Common.{◌≡◌, ℕ, ◌≤◌, ◌↔◌, Some, Ok, Result, sym, subst, arith}
+use Rattle.std.specs.Result.{result_ok}
+use Rattle.grid.specs.declared.bare.BarePlace.{BarePlace}
+use Rattle.grid.specs.declared.refusal.Refusal.{Refusal}
+use Rattle.grid.specs.Refusals.{numbered, numbers, workspace_of}
+use Rattle.grid.proofs.RefusalLaws.{Ended, ok_taken, workspace_ended}
 use Rattle.grid.specs.declared.axis.Axis.{Axis}
 use Rattle.grid.specs.declared.axis.Axis.TheVariants.{Needle, Course, Track}
 use Rattle.grid.specs.declared.cell.Cell.{Cell}
@@ -23,3 +28,7 @@ whole_course c course lows highs p = (
   λ i. omega (arith, i.0 Course, i.1 Course, lows Course, highs Course),
   λ e. (λ x. omega (arith, lows x, least p course e x), λ x. omega (arith, highs x, most p course e x)),
 )
+
+-- a workspace that was not refused has the ends that were asked for
+pub ends_of : (low high : BarePlace) (r : Result Cell Refusal) (c : Cell) → result_ok r ≡ Some c → numbered r ≡ workspace_of low high → Ended (numbers low) (numbers high) (Ok c)
+ends_of low high r c is told = subst (Ended (numbers low) (numbers high)) (sym (ok_taken r c (workspace_of low high) is told)) (workspace_ended low high)

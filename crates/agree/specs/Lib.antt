@@ -1,4 +1,3 @@
 pub mod Courses
 pub mod Panel
 pub mod Quarters
-pub mod Words

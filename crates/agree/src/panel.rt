@@ -46,8 +46,8 @@ pub const PICTURE: &str = "222000000000000000000222
 2220000000....0000000222
 ";
 
-// The carriage program: course, track, first and last needle. The pass of yarn 1 in course 47 is wrong: it should run
-// from needle 125 to 138.
+// The carriage program, in rows of numbers as such programs are written: course, track, first and last needle. The pass of
+// yarn 1 in course 47 is wrong: it should run from needle 125 to 138.
 pub const RUNS: [[u16; 4]; 77] = [
     [40, 2, 120, 122],
     [40, 0, 123, 140],
@@ -128,14 +128,13 @@ pub const RUNS: [[u16; 4]; 77] = [
     [55, 2, 141, 143],
 ];
 
-// The yarn that a mark names, or 9 for no stitch.
+// The yarn that a mark names, or 9 for no stitch. It is a byte of the chart's own format, and so a number.
 fn yarn(mark: u8) -> u8
     ensures { result ≡ yarn_of mark }
 {
-    if b'0' <= mark && mark <= b'7' {
-        mark - b'0'
-    } else {
-        9
+    match mark {
+        b'0'..=b'7' => mark - b'0',
+        _ => 9,
     }
 }
 
@@ -143,25 +142,23 @@ fn yarn(mark: u8) -> u8
 pub fn stitches(heap: Global, picture: &str) -> Result<Vec<u8>, AllocError>
     ensures { IfOk result (λ v. v.items ≡ flat_map stitch_of picture.now) }
 {
-    let mut bytes = Vec::new(heap);
-    for mark in picture.as_bytes() {
-        if *mark == b'\n' {
-            continue;
-        }
-        bytes.push(yarn(*mark))?;
-    }
-    Ok(bytes)
+    picture
+        .bytes()
+        .filter(|mark| *mark != b'\n')
+        .map(yarn)
+        .collect(heap)
 }
 
-// The pass that a run stands for.
+// The pass that a run stands for. The order of the four numbers is that of the rows above, and no property of a pass.
 fn pass(run: &[u16; 4]) -> Pass
     ensures { result ≡ pass_of run.now }
 {
+    let [course, track, from, to] = *run;
     Pass {
-        course: run[0],
-        track: run[1],
-        from: run[2],
-        to: run[3],
+        course,
+        track,
+        from,
+        to,
     }
 }
 
@@ -169,9 +166,5 @@ fn pass(run: &[u16; 4]) -> Pass
 pub fn program(heap: Global, runs: &[[u16; 4]]) -> Result<Vec<Pass>, AllocError>
     ensures { IfOk result (λ v. v.items ≡ map pass_of runs.now) }
 {
-    let mut passes = Vec::new(heap);
-    for run in runs {
-        passes.push(pass(run))?;
-    }
-    Ok(passes)
+    runs.iter().map(pass).collect(heap)
 }

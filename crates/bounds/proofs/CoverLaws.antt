@@ -1,5 +1,5 @@
 -- What covers a node, and that it does. Assumes nothing.
-use Rattle.std.proofs.Common.{◌≡◌, ℕ, ◌+◌, ◌<◌, Bool, true, false, ◌&&◌, eqb, leb, ◌⊎◌, List, length, sym, refl, ap, ◌∙◌, inl, inr, ⊎_elim, arith}
+use Rattle.std.proofs.Common.{◌≡◌, ℕ, ◌+◌, ◌<◌, Bool, true, false, ◌&&◌, eqb, leb, ◌⊎◌, List, length, get_or, sym, refl, ap, ◌∙◌, inl, inr, ⊎_elim, arith}
 use Rattle.std.proofs.lemmas.Bool.{and_parts, or_cases, or_left, or_right, eqb-true, eq-eqb, cases_Bool, cond_both, cond-true, cond-false}
 use Rattle.grid.specs.declared.place.Place.{Place}
 use Rattle.grid.specs.Laws.{Holds}
@@ -14,18 +14,17 @@ use Rattle.trees.specs.Sets.{joins, root_of}
 use Rattle.trees.proofs.ValueLaws.{rising, value_leaf, value_inner}
 use Rattle.trees.proofs.TreeLaws.{inner_below}
 use Rattle.bounds.specs.declared.bounded_node.BoundedNode.{BoundedNode}
-use Rattle.bounds.specs.Tables.{nodes_in, bound_at}
+use Rattle.bounds.specs.declared.tree.BoundedTree.{BoundedTree}
+use Rattle.bounds.specs.Trees.{nodes_of}
+use Rattle.bounds.specs.Tables.{nodes_in, blank, bound_at}
 use Rattle.bounds.specs.Covering.{Cover, covers_inner, cover_rule, cover_at}
 use Rattle.bounds.specs.Laws.{CoverLaw}
-use Rattle.bounds.proofs.TableLaws.{nodes_count, entry_node, inner_lower}
+use Rattle.bounds.proofs.TableLaws.{nodes_count, entry_node, inner_lower, tree_of, seen_here, seen_node}
 use Rattle.bounds.proofs.PassingLaws.{passing_just}
 use Rattle.bounds.proofs.SetLaws.{node_in, uncut, has, has_is, has_in}
 
 -- what is known of a leaf node, and of an inner node
 module _ (nodes : List Node) (i : ℕ) (h : i < length nodes) where
-  pub leaf_count : (k : ℕ) → node_at nodes i ≡ Leaf k → (cover_at nodes i).leaves ≡ 1
-  leaf_count k is = ap (λ (c : Cover). c.leaves) (value_leaf cover_rule nodes i k (Leaf 0) h is)
-
   pub leaf_covers : (k : ℕ) → node_at nodes i ≡ Leaf k → (j : ℕ) → (cover_at nodes i).covers j ≡ eqb i j
   leaf_covers k is j = ap (λ (c : Cover). c.covers j) (value_leaf cover_rule nodes i k (Leaf 0) h is)
 
@@ -33,11 +32,16 @@ module _ (nodes : List Node) (i : ℕ) (h : i < length nodes) where
     inner_cover : cover_at nodes i ≡ record { leaves = (cover_at nodes l).leaves + (cover_at nodes r).leaves; covers = covers_inner o (cover_at nodes l) (cover_at nodes r) }
     inner_cover = let below = inner_below nodes tree i o l r h is in value_inner cover_rule nodes i o l r (Leaf 0) h is below.0 below.1
 
-    pub inner_count : (cover_at nodes i).leaves ≡ (cover_at nodes l).leaves + (cover_at nodes r).leaves
-    inner_count = ap (λ (c : Cover). c.leaves) inner_cover
-
     pub inner_covers : (j : ℕ) → (cover_at nodes i).covers j ≡ covers_inner o (cover_at nodes l) (cover_at nodes r) j
     inner_covers j = ap (λ (c : Cover). c.covers j) inner_cover
+
+-- How many leaf nodes a node is made of that was read from a checked tree.
+module _ (t : BoundedTree) (i : ℕ) (h : i < length (nodes_of t)) (e : BoundedNode) (read : e ≡ get_or (nodes_of t) i blank) where
+  pub leaf_count : (k : ℕ) → e.node ≡ Leaf k → 1 ≡ (cover_at (nodes_in (nodes_of t)) i).leaves
+  leaf_count k is = sym (ap (λ (c : Cover). c.leaves) (value_leaf cover_rule (nodes_in (nodes_of t)) i k (Leaf 0) (seen_here t i h) (seen_node t i h e (Leaf k) read is)))
+
+  pub inner_count : (o : Operation) (l r m n : ℕ) → e.node ≡ Inner o l r → m ≡ (cover_at (nodes_in (nodes_of t)) l).leaves → n ≡ (cover_at (nodes_in (nodes_of t)) r).leaves → m + n ≡ (cover_at (nodes_in (nodes_of t)) i).leaves
+  inner_count o l r m n is left right = omega (arith, left, right, ap (λ (c : Cover). c.leaves) (inner_cover (nodes_in (nodes_of t)) i (seen_here t i h) (tree_of t) o l r (seen_node t i h e (Inner o l r) read is)))
 
 -- what covers an inner node covers one of its children
 covers_from : (o : Operation) (a b : Cover) (j : ℕ) → covers_inner o a b j ≡ true → (a.covers j ≡ true) ⊎ (b.covers j ≡ true)
@@ -100,14 +104,16 @@ module _ (table : List BoundedNode) (tree : Tree (nodes_in table)) (sets : List 
   covered_by : (i : ℕ) → i < length table → has sets p table i ≡ true → Covered i
   covered_by = rising (λ i. i < length table → has sets p table i ≡ true → Covered i) (λ i ih h t. covered_node i ih h t (node_in table i) refl)
 
-pub cover_law : (table : List BoundedNode) → Tree (nodes_in table) → CoverLaw table
+pub cover_law : (t : BoundedTree) → CoverLaw (nodes_of t)
 unfolding Covered
-cover_law table tree =
+cover_law t =
+    let table = nodes_of t in
+    let tree = tree_of t in
     let nodes = nodes_in table in
     let long = nodes_count table in
     let root : root_of table ≡ root_of nodes = omega arith in
     let just = passing_just (cover_at nodes (root_of nodes)).covers (length nodes) in
     record {
       leaf = λ i among. covering_leaf nodes tree i (root_of nodes) (omega (arith, tree.some)) ((just i).0 among).1;
-      covered = λ sets p t. let c = covered_by table tree sets p (root_of table) (omega (arith, tree.some)) t in (c.0, ((just c.0).1 (omega (arith, c.1), ap (λ n. (cover_at nodes n).covers c.0) (sym root) ∙ c.2), c.3));
+      covered = λ sets p c. let d = covered_by table tree sets p (root_of table) (omega (arith, tree.some)) c in (d.0, ((just d.0).1 (omega (arith, d.1), ap (λ n. (cover_at nodes n).covers d.0) (sym root) ∙ d.2), d.3));
     }

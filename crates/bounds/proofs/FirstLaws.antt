@@ -1,19 +1,20 @@
 -- The first bounds leave of a tree's set just what lies in the workspace. Assumes nothing.
-use Rattle.std.proofs.Common.{◌≡◌, ℕ, ◌+◌, ◌<◌, Bool, true, false, ◌&&◌, List, [], ◌∷◌, ◌++◌, map, length, get_or, take, set, Some, sym, refl, ap, ◌∙◌, subst, arith}
-use Rattle.std.proofs.lemmas.List.{get_or-map, length-map, take_more, take_more_set, take_all}
+use Rattle.std.proofs.Common.{◌≡◌, ℕ, ◌+◌, ◌<◌, Bool, true, false, ◌&&◌, List, [], ◌∷◌, ◌++◌, map, length, get_or, take, set, Some, Ok, sym, refl, ap, ◌∙◌, subst, arith}
+use Rattle.std.proofs.lemmas.List.{get_or-map, length-map, take_more, take_more_set}
 use Rattle.std.proofs.lemmas.Bool.{false≢true}
 use Rattle.grid.specs.declared.cell.Cell.{Cell}
 use Rattle.grid.specs.declared.place.Place.{Place}
 use Rattle.grid.specs.Cells.{inside}
-use Rattle.pattern.specs.Sets.{leaf_set}
+use Rattle.pattern.specs.Sets.{PlaceSet, leaf_set}
 use Rattle.pattern.specs.Relations.{box_set}
 use Rattle.pattern.specs.Banks.{Meaning, Facts}
 use Rattle.trees.specs.declared.bare.BareNode.{BareNode}
 use Rattle.trees.specs.declared.node.Operation.{Operation}
 use Rattle.trees.specs.declared.node.Node.{Node}
 use Rattle.trees.specs.declared.node.Node.TheVariants.{Leaf, Inner}
-use Rattle.trees.specs.Nodes.{node_from, nodes_from, node_at, children_below, times_named, Tree}
+use Rattle.trees.specs.Nodes.{node_from, nodes_from, node_at, Tree}
 use Rattle.trees.specs.Sets.{joins, node_set, tree_set, root_of}
+use Rattle.trees.specs.Checks.{Sound}
 use Rattle.trees.proofs.ValueLaws.{rising}
 use Rattle.trees.proofs.TreeLaws.{inner_below, set_leaf, set_inner}
 use Rattle.bounds.specs.declared.bounded_node.BoundedNode.{BoundedNode}
@@ -21,7 +22,8 @@ use Rattle.bounds.specs.declared.table.NodeTable.{NodeTable}
 use Rattle.bounds.specs.Tables.{entries, nodes_in, blank, Good}
 use Rattle.bounds.specs.Sets.{root_set}
 use Rattle.bounds.specs.First.{first_bound, first_node, first_bounds}
-use Rattle.bounds.proofs.TableLaws.{nodes_count}
+use Rattle.bounds.specs.Laws.{FirstLaw}
+use Rattle.bounds.proofs.TableLaws.{good_from}
 use Rattle.bounds.proofs.BoxLaws.{decides_box, box_cut}
 use Rattle.bounds.proofs.SetLaws.{uncut, has, has_is}
 
@@ -33,14 +35,8 @@ filled_more f slots bare i d y h k is so_far =
     ∙ ap (λ x. take i (map f bare) ++ (x ∷ [])) (is ∙ sym (get_or-map f bare i d blank k))
     ∙ sym (take_more (map f bare) i blank (omega (arith, length-map bare f)))
 
--- and all of them
-pub filled_all : (f : BareNode → BoundedNode) (slots : List BoundedNode) (bare : List BareNode) (count i : ℕ) → count ≡ length bare → i ≡ length bare → take i slots ≡ take i (map f bare) → take count slots ≡ map f bare
-filled_all f slots bare count i many end so_far =
-    let same : count ≡ i = omega arith in
-    ap (λ n. take n slots) same ∙ so_far ∙ take_all i (map f bare) (omega (arith, length-map bare f))
-
 -- the nodes of the first table are those that were handed over
-pub nodes_first : (m : Meaning) (workspace : Cell) (bare : List BareNode) → nodes_in (first_bounds m workspace bare) ≡ nodes_from bare
+nodes_first : (m : Meaning) (workspace : Cell) (bare : List BareNode) → nodes_in (first_bounds m workspace bare) ≡ nodes_from bare
 nodes_first m workspace [] = refl
 nodes_first m workspace (b ∷ rest) = ap (λ ns. node_from b ∷ ns) (nodes_first m workspace rest)
 
@@ -99,21 +95,20 @@ module _ (m : Meaning) (facts : Facts m) (workspace : Cell) (bare : List BareNod
   agrees = rising Agrees (λ i ih h. agrees_node i ih h (node_at (nodes_from bare) i) refl)
 
   -- The root's bounded set is its set within the workspace.
-  pub first_root : root_set m.sets first_table p ≡ (inside p workspace && tree_set m.sets (nodes_from bare) p)
+  first_root : root_set m.sets first_table p ≡ (inside p workspace && tree_set m.sets (nodes_from bare) p)
   first_root =
       let long = length-map bare node_from in
       let root : root_of first_table ≡ root_of (nodes_from bare) = omega (arith, length-map bare (λ b. first_node m workspace (node_from b))) in
       ap (has m.sets p first_table) root ∙ agrees (root_of (nodes_from bare)) (omega (arith, tree.some))
 
--- A table of the nodes of a tree with their first bounds holds a tree.
+-- A table of the nodes of a tree with their first bounds is one that a checked tree may keep.
 pub good_first : (m : Meaning) (workspace : Cell) (bare : List BareNode) (t : NodeTable) → Tree (nodes_from bare) → entries t ≡ first_bounds m workspace bare → t.count ≡ length bare → Good t
 good_first m workspace bare t tree is count =
-    let nodes : nodes_in (entries t) ≡ nodes_from bare = ap nodes_in is ∙ nodes_first m workspace bare in
-    let long = length-map bare node_from in
-    record {
-      some = omega (arith, tree.some);
-      few = omega (arith, tree.few);
-      whole = omega (arith, ap length nodes, nodes_count (entries t));
-      below = λ i h. ap (λ ns. children_below i (node_at ns i)) nodes ∙ tree.below i (omega arith);
-      parents = λ child h. ap (λ ns. times_named ns child) nodes ∙ tree.parents child (omega arith);
-    }
+    good_from t (subst Tree (sym (ap nodes_in is ∙ nodes_first m workspace bare)) tree) (ap length is ∙ length-map bare (λ b. first_node m workspace (node_from b)) ∙ sym count)
+
+-- The law of the first bounds, of a tree that was accepted over the sets of a bank.
+pub first_told : (m : Meaning) → Facts m → (sets : List PlaceSet) → m.sets ≡ sets → (workspace : Cell) (bare : List BareNode) → Sound (length sets) bare → (table : List BoundedNode) → table ≡ first_bounds m workspace bare → FirstLaw m workspace bare (Ok table)
+first_told m facts sets own workspace bare sound table is = (
+  subst (λ s. Sound (length s) bare) (sym own) sound,
+  λ p. subst (λ t. root_set m.sets t p ≡ (inside p workspace && tree_set m.sets (nodes_from bare) p)) (sym is) (first_root m facts workspace bare sound.tree p),
+)

@@ -1,12 +1,19 @@
 -- A node of a tree is made of at most as many leaf nodes as there are nodes up to it. Assumes nothing.
-use Rattle.std.proofs.Common.{◌≡◌, ℕ, zero, suc, ◌+◌, ◌*◌, ◌<◌, ◌≤◌, List, [], ◌∷◌, length, take, refl, ap, ⊎_elim, mul-le-mul_right, add-mul, arith}
+use Rattle.std.proofs.Common.{◌≡◌, ℕ, zero, suc, ◌+◌, ◌*◌, ◌<◌, ◌≤◌, List, [], ◌∷◌, length, get_or, take, refl, ap, ⊎_elim, mul-le-mul_right, add-mul, arith}
 use Rattle.std.proofs.lemmas.Bool.{cases_lt, cond-true, eq-eqb}
+use Rattle.trees.specs.declared.node.Operation.{Operation}
 use Rattle.trees.specs.declared.node.Node.{Node}
 use Rattle.trees.specs.declared.node.Node.TheVariants.{Leaf, Inner}
 use Rattle.trees.specs.Nodes.{node_at, once, names, times_named, Tree}
 use Rattle.trees.proofs.TreeLaws.{inner_below}
 use Rattle.trees.proofs.ValueLaws.{value_leaf, value_inner}
+use Rattle.bounds.specs.declared.bounded_node.BoundedNode.{BoundedNode}
+use Rattle.bounds.specs.declared.tree.BoundedTree.{BoundedTree}
+use Rattle.bounds.specs.Tables.{nodes_in, blank}
 use Rattle.bounds.specs.Covering.{Cover, cover_rule, cover_at}
+use Rattle.bounds.specs.Trees.{nodes_of}
+use Rattle.bounds.proofs.TableLaws.{tree_of, seen_here}
+use Rattle.bounds.proofs.CoverLaws.{inner_count}
 
 -- The nodes before number k name a child no more often than all do, and node k adds what it names itself.
 front_few : (nodes : List Node) (k c : ℕ) → times_named (take k nodes) c ≤ times_named nodes c
@@ -79,3 +86,7 @@ leaves_few nodes tree i h =
       leaves_front nodes tree (suc i) i (omega arith) (omega arith),
       total_le (leaves nodes) (times_named (take (suc i) nodes)) (λ j. 1) i (λ j l. omega (arith, front_few nodes (suc i) j, tree.parents j (omega arith))),
     )
+
+pub inner_few : (t : BoundedTree) (i : ℕ) → i < length (nodes_of t) → (e : BoundedNode) → e ≡ get_or (nodes_of t) i blank → (o : Operation) (l r m n : ℕ) → e.node ≡ Inner o l r → m ≡ (cover_at (nodes_in (nodes_of t)) l).leaves → n ≡ (cover_at (nodes_in (nodes_of t)) r).leaves → m + n ≤ i + 1
+inner_few t i h e read o l r m n is left right =
+    omega (arith, inner_count t i h e read o l r m n is left right, leaves_few (nodes_in (nodes_of t)) (tree_of t) i (seen_here t i h))

@@ -1,20 +1,17 @@
 -- Tightening leaves the nodes as they are, but for their bounds. Assumes nothing.
-use Rattle.std.proofs.Common.{◌≡◌, ℕ, zero, suc, ◌+◌, List, length, get_or, Option, sym, refl, ap, ◌∙◌, add-one, arith}
+use Rattle.std.proofs.Common.{◌≡◌, ℕ, zero, suc, ◌+◌, List, get_or, Option, sym, refl, ap, ◌∙◌, add-one}
 use lib.Seq.{map-set_same}
 use Rattle.grid.specs.declared.cell.Cell.{Cell}
 use Rattle.trees.specs.declared.node.Node.{Node}
 use Rattle.trees.specs.declared.node.Node.TheVariants.{Leaf, Inner}
-use Rattle.trees.specs.Nodes.{node_at, children_below, times_named}
 use Rattle.bounds.specs.declared.bounded_node.BoundedNode.{BoundedNode}
-use Rattle.bounds.specs.declared.table.NodeTable.{NodeTable}
-use Rattle.bounds.specs.Tables.{entries, nodes_in, blank, bound_at, cut_node, narrowed, Good}
+use Rattle.bounds.specs.Tables.{nodes_in, blank, bound_at, cut_node, narrowed}
 use Rattle.bounds.specs.Tightening.{reach, cut_by_children, cut_children, upward, downward}
-use Rattle.bounds.proofs.TableLaws.{nodes_count}
 
 pub nodes_narrowed : (table : List BoundedNode) (i : ℕ) (b : Option Cell) → nodes_in (narrowed table i b) ≡ nodes_in table
 nodes_narrowed table i b = map-set_same (λ e. e.node) table i (cut_node (get_or table i blank) b) blank refl
 
-pub nodes_by_children : (n : Node) (i : ℕ) (table : List BoundedNode) → nodes_in (cut_by_children n i table) ≡ nodes_in table
+nodes_by_children : (n : Node) (i : ℕ) (table : List BoundedNode) → nodes_in (cut_by_children n i table) ≡ nodes_in table
 nodes_by_children (Leaf k) i table = refl
 nodes_by_children (Inner o l r) i table = nodes_narrowed table i (reach o (bound_at table l) (bound_at table r))
 
@@ -49,13 +46,3 @@ downward_none table = refl
 pub downward_more : (m n : ℕ) (table next : List BoundedNode) → n ≡ suc m → next ≡ cut_children (get_or table m blank).node m table → downward m next ≡ downward n table
 unfolding downward
 downward_more m n table next one is = ap (downward m) is ∙ ap (λ k. downward k table) (sym one)
-
--- A table with the same nodes as one that holds a tree holds a tree.
-pub good_like : (t u : NodeTable) → Good t → u.count ≡ t.count → nodes_in (entries u) ≡ nodes_in (entries t) → Good u
-good_like t u good count nodes = record {
-  some = omega (arith, good.some);
-  few = omega (arith, good.few);
-  whole = omega (arith, good.whole, nodes_count (entries t), nodes_count (entries u), ap length nodes);
-  below = λ i h. ap (λ ns. children_below i (node_at ns i)) nodes ∙ good.below i (omega arith);
-  parents = λ child h. ap (λ ns. times_named ns child) nodes ∙ good.parents child (omega arith);
-}

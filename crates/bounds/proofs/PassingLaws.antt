@@ -1,6 +1,6 @@
 -- The numbers that pass a test. Assumes nothing.
-use Rattle.std.proofs.Common.{◌≡◌, ℕ, zero, suc, ◌+◌, ◌<◌, Bool, true, false, cond, ◌⊎◌, ◌↔◌, List, [], ◌∷◌, ◌++◌, sym, refl, ap, ◌∙◌, subst, inl, inr, ⊎_elim, add-one, arith}
-use Rattle.std.proofs.lemmas.List.{append-nil}
+use Rattle.std.proofs.Common.{◌≡◌, ℕ, zero, suc, ◌+◌, ◌<◌, Bool, true, false, cond, ◌⊎◌, ◌↔◌, List, [], ◌∷◌, ◌++◌, length, sym, refl, ap, ◌∙◌, subst, inl, inr, ⊎_elim, add-one, arith}
+use Rattle.std.proofs.lemmas.List.{append-nil, length_push}
 use Rattle.std.proofs.lemmas.Bool.{cases_lt, both_ways}
 use Rattle.bounds.specs.Tightening.{passing, Among}
 
@@ -41,8 +41,23 @@ unfolding passing
 passing_just test zero k = (λ h. absurd h, λ h. absurd (omega (arith, h.0)))
 passing_just test (suc n) k = one_just test n k (passing test n) (passing_just test n k) (test n) refl
 
--- Tests that agree pass the same numbers.
-pub passing_like : (f g : ℕ → Bool) → ((j : ℕ) → f j ≡ g j) → (n : ℕ) → passing f n ≡ passing g n
+-- Tests that agree on the numbers below n pass the same of them.
+pub passing_like : (f g : ℕ → Bool) (n : ℕ) → ((j : ℕ) → j < n → f j ≡ g j) → passing f n ≡ passing g n
 unfolding passing
-passing_like f g same zero = refl
-passing_like f g same (suc n) = ap (λ xs. xs ++ cond (f n) (n ∷ []) []) (passing_like f g same n) ∙ ap (λ b. passing g n ++ cond b (n ∷ []) []) (same n)
+passing_like f g zero same = refl
+passing_like f g (suc n) same =
+    ap (λ xs. xs ++ cond (f n) (n ∷ []) []) (passing_like f g n (λ j h. same j (omega arith)))
+    ∙ ap (λ b. passing g n ++ cond b (n ∷ []) []) (same n (omega arith))
+
+-- How many numbers pass: one number more at the end, and at the front.
+count_more : (test : ℕ → Bool) (n : ℕ) → length (passing test (suc n)) ≡ length (passing test n) + cond (test n) 1 0
+unfolding passing
+count_more test n =
+    elim (test n) as (λ b. length (passing test n ++ cond b (n ∷ []) []) ≡ length (passing test n) + cond b 1 0) [
+      | true ↦ omega (arith, length_push (passing test n) n)
+      | false ↦ omega (arith, ap length (append-nil (passing test n)))
+    ]
+
+pub count_front : (test : ℕ → Bool) (n : ℕ) → length (passing test (suc n)) ≡ cond (test 0) 1 0 + length (passing (λ i. test (suc i)) n)
+count_front test zero = omega (arith, count_more test 0, ap length (passing_none test), ap length (passing_none (λ i. test (suc i))))
+count_front test (suc n) = omega (arith, count_more test (suc n), count_front test n, count_more (λ i. test (suc i)) n)

@@ -10,10 +10,12 @@ use Rattle.trees.specs.Sets.{root_of}
 use Rattle.trees.proofs.TreeLaws.{below_parts}
 use Rattle.trees.proofs.ParentLaws.{named_at}
 use Rattle.bounds.specs.declared.bounded_node.BoundedNode.{BoundedNode}
+use Rattle.bounds.specs.declared.tree.BoundedTree.{BoundedTree}
+use Rattle.bounds.specs.Trees.{nodes_of}
 use Rattle.bounds.specs.Tables.{nodes_in, bound_at, cut_both, narrowed}
 use Rattle.bounds.specs.Tightening.{reach, cut_by_children, cut_children, upward, downward, tightened}
 use Rattle.bounds.specs.Laws.{Tightened, TightenLaw}
-use Rattle.bounds.proofs.TableLaws.{nodes_count, entry_node, inner_lower}
+use Rattle.bounds.proofs.TableLaws.{nodes_count, entry_node, inner_lower, tree_of}
 use Rattle.bounds.proofs.NodeLaws.{nodes_children, nodes_upward, nodes_downward}
 use Rattle.bounds.proofs.SetLaws.{node_in, node_below, narrowed_other, narrowed_same, narrowed_length}
 use Rattle.bounds.proofs.TightenLaws.{like_length, like_tree, like_node, once_self, only_parent, tightened_keeps, upward_narrows, downward_narrows, changed_just}
@@ -163,7 +165,7 @@ downward_child (suc n) table tree q c h k l named =
     (cases_eq q n)
 
 -- The bounds after a tightening are those of its rule.
-pub tightened_rule : (table : List BoundedNode) → Tree (nodes_in table) → Tightened table (tightened table)
+tightened_rule : (table : List BoundedNode) → Tree (nodes_in table) → Tightened table (tightened table)
 unfolding risen_at
 tightened_rule table tree =
     let up = upward (length table) table in
@@ -185,7 +187,7 @@ tightened_rule table tree =
     }
 
 -- A tightening keeps what it should, and is what it should be.
-pub tighten_law : (table : List BoundedNode) → Tree (nodes_in table) → TightenLaw table (tightened table)
+tighten_law : (table : List BoundedNode) → Tree (nodes_in table) → TightenLaw table (tightened table)
 tighten_law table tree =
     let up = upward (length table) table in
     record {
@@ -195,3 +197,9 @@ tighten_law table tree =
       changed = changed_just table (tightened table);
       rule = tightened_rule table tree;
     }
+
+-- The same of a checked tree, from what the two passes leave.
+pub tighten_told : (t : BoundedTree) (up after : List BoundedNode) → up ≡ upward (length (nodes_of t)) (nodes_of t) → length up ≡ length (nodes_of t) → after ≡ downward (length up) up → TightenLaw (nodes_of t) after
+tighten_told t up after risen long is =
+    let same : after ≡ tightened (nodes_of t) = is ∙ ap (λ n. downward n up) long ∙ ap (downward (length (nodes_of t))) risen in
+    subst (TightenLaw (nodes_of t)) (sym same) (tighten_law (nodes_of t) (tree_of t))

@@ -13,9 +13,12 @@ use Rattle.trees.specs.Sets.{joins}
 use Rattle.trees.proofs.ValueLaws.{rising, value_leaf, value_inner}
 use Rattle.trees.proofs.TreeLaws.{below_parts}
 use Rattle.bounds.specs.declared.bounded_node.BoundedNode.{BoundedNode}
-use Rattle.bounds.specs.Tables.{nodes_in, blank, bound_at, cut_node, narrowed}
+use Rattle.bounds.specs.declared.table.NodeTable.{NodeTable}
+use Rattle.bounds.specs.declared.tree.BoundedTree.{BoundedTree}
+use Rattle.bounds.specs.Tables.{entries, nodes_in, blank, bound_at, cut_node, narrowed, Good}
+use Rattle.bounds.specs.Trees.{nodes_of}
 use Rattle.bounds.specs.Sets.{bounded_rule, bounded_set}
-use Rattle.bounds.proofs.TableLaws.{nodes_count, entry_node, inner_lower}
+use Rattle.bounds.proofs.TableLaws.{nodes_count, entry_node, inner_lower, tree_of, good_from}
 use Rattle.bounds.proofs.NodeLaws.{nodes_narrowed}
 use Rattle.bounds.proofs.BoxLaws.{decides_box, box_cut}
 
@@ -66,6 +69,11 @@ module _ (table : List BoundedNode) (c : ℕ) (b : Option Cell) where
 
   narrowed_node : c < length table → (i : ℕ) → node_in (narrowed table c b) i ≡ node_in table i
   narrowed_node h i = ⊎_elim (λ e. ap (node_in (narrowed table c b)) e ∙ ap (λ x. x.node) (narrowed_same h) ∙ ap (node_in table) (sym e)) (λ ne. ap (λ x. x.node) (narrowed_other i ne)) (cases_eq i c)
+
+-- A checked tree with one bound narrowed is one still.
+pub good_narrowed : (t : BoundedTree) (u : NodeTable) (c : ℕ) (b : Option Cell) → entries u ≡ narrowed (nodes_of t) c b → u.count ≡ t.table.count → Good u
+good_narrowed t u c b is count =
+    good_from u (subst (λ table. Tree (nodes_in table)) (sym is) (narrowed_tree (nodes_of t) c b (tree_of t))) (ap length is ∙ narrowed_length (nodes_of t) c b ∙ t.whole ∙ sym count)
 
 -- the children of a node are below it
 pub node_below : (table : List BoundedNode) → Tree (nodes_in table) → (i : ℕ) → i < length table → children_below i (node_in table i) ≡ true

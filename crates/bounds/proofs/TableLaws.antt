@@ -10,10 +10,12 @@ use Rattle.trees.specs.Nodes.{node_at, Tree}
 use Rattle.trees.proofs.TreeLaws.{inner_below}
 use Rattle.bounds.specs.declared.bounded_node.BoundedNode.{BoundedNode}
 use Rattle.bounds.specs.declared.table.NodeTable.{NodeTable}
+use Rattle.bounds.specs.declared.tree.BoundedTree.{BoundedTree}
+use Rattle.bounds.specs.Trees.{nodes_of}
 use Rattle.bounds.specs.Tables.{entries, nodes_in, blank, cut_node, narrowed, Good}
 
 -- A node of the table is one of those that are shown.
-pub shown_at : (nodes : List BoundedNode) (count i : ℕ) (d : BoundedNode) → i < count → i < length nodes → get_or nodes i d ≡ get_or (take count nodes) i blank
+shown_at : (nodes : List BoundedNode) (count i : ℕ) (d : BoundedNode) → i < count → i < length nodes → get_or nodes i d ≡ get_or (take count nodes) i blank
 shown_at nodes count i d h k = get_or_default nodes i d blank k ∙ sym (get_or-take count nodes i blank h)
 
 -- To narrow a node of the table is to narrow it among those that are shown.
@@ -32,24 +34,37 @@ entry_node table i h = get_or-map (λ e. e.node) table i blank (Leaf 0) h
 pub inner_lower : (table : List BoundedNode) → Tree (nodes_in table) → (i : ℕ) (o : Operation) (l r : ℕ) → i < length table → (get_or table i blank).node ≡ Inner o l r → (l < i) × (r < i)
 inner_lower table tree i o l r h is = inner_below (nodes_in table) tree i o l r (omega (arith, nodes_count table)) (entry_node table i h ∙ is)
 
--- The nodes of a table that holds a tree are those of a tree.
-pub good_tree : (t : NodeTable) → Good t → Tree (nodes_in (entries t))
-good_tree t good =
-    let long = nodes_count (entries t) in
+-- The nodes of a checked tree are those of a tree.
+pub tree_of : (t : BoundedTree) → Tree (nodes_in (nodes_of t))
+tree_of t =
+    let long = nodes_count (nodes_of t) in
     record {
-      some = omega (arith, good.some, good.whole);
-      few = omega (arith, good.few, good.whole);
-      below = λ i h. good.below i (omega (arith, good.whole));
-      parents = λ child h. good.parents child (omega (arith, good.whole));
+      some = omega (arith, t.some, t.whole);
+      few = omega (arith, t.few, t.whole);
+      below = λ i h. t.below i (omega (arith, t.whole));
+      parents = λ child h. t.parents child (omega (arith, t.whole));
     }
 
-pub shown_below : (t : NodeTable) → Good t → (i : ℕ) (e : BoundedNode) (o : Operation) (l r : ℕ) → i < t.count → e ≡ get_or (entries t) i blank → e.node ≡ Inner o l r → (l < i) × (r < i)
-shown_below t good i e o l r h read is = inner_lower (entries t) (good_tree t good) i o l r (omega (arith, good.whole)) (ap (λ x. x.node) (sym read) ∙ is)
+-- A table with the nodes of a tree, as many as it counts, is one that a checked tree may keep.
+pub good_from : (t : NodeTable) → Tree (nodes_in (entries t)) → length (entries t) ≡ t.count → Good t
+good_from t tree whole =
+    let long = nodes_count (entries t) in
+    record {
+      some = omega (arith, tree.some);
+      few = omega (arith, tree.few);
+      whole = whole;
+      below = λ i h. tree.below i (omega arith);
+      parents = λ child h. tree.parents child (omega arith);
+    }
 
--- A node that was read from a table that holds a tree.
-module _ (t : NodeTable) (good : Good t) (i : ℕ) (h : i < t.count) where
-  pub seen_here : i < length (nodes_in (entries t))
-  seen_here = omega (arith, good.whole, nodes_count (entries t))
+-- A node that was read from a checked tree.
+module _ (t : BoundedTree) (i : ℕ) (h : i < length (nodes_of t)) where
+  pub seen_here : i < length (nodes_in (nodes_of t))
+  seen_here = omega (arith, nodes_count (nodes_of t))
 
-  pub seen_node : (e : BoundedNode) (n : Node) → e ≡ get_or (entries t) i blank → e.node ≡ n → node_at (nodes_in (entries t)) i ≡ n
-  seen_node e n read is = entry_node (entries t) i (omega (arith, good.whole)) ∙ ap (λ x. x.node) (sym read) ∙ is
+  pub seen_node : (e : BoundedNode) (n : Node) → e ≡ get_or (nodes_of t) i blank → e.node ≡ n → node_at (nodes_in (nodes_of t)) i ≡ n
+  seen_node e n read is = entry_node (nodes_of t) i h ∙ ap (λ x. x.node) (sym read) ∙ is
+
+  -- its children have lower numbers
+  pub seen_below : (e : BoundedNode) → e ≡ get_or (nodes_of t) i blank → (o : Operation) (l r : ℕ) → e.node ≡ Inner o l r → (l < i) × (r < i)
+  seen_below e read o l r is = inner_lower (nodes_of t) (tree_of t) i o l r h (ap (λ x. x.node) (sym read) ∙ is)

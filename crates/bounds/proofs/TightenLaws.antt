@@ -1,5 +1,6 @@
 -- What a tightening keeps, and what it changes. Assumes nothing.
-use Rattle.std.proofs.Common.{◌≡◌, ℕ, zero, suc, ◌<◌, ◌≤◌, true, cond, ◌&&◌, ◌≢◌, ◌↔◌, List, length, get_or, Some, None, Decides, Option, sym, refl, ap, ◌∙◌, subst, ⊎_elim, arith}
+use Rattle.std.proofs.Common.{◌≡◌, ℕ, zero, suc, ◌+◌, ◌<◌, ◌≤◌, Bool, true, false, cond, not, ◌&&◌, ◌≢◌, ◌↔◌, List, [], ◌∷◌, length, get_or, Some, None, Decides, Option, sym, refl, ap, ◌∙◌, subst, ⊎_elim, arith}
+use Rattle.std.specs.List.{filter, zip}
 use Rattle.std.proofs.lemmas.List.{set_past}
 use Rattle.std.proofs.lemmas.Bool.{and_parts, and_from, eq-eqb, cases_eq, cases_lt, false≢true}
 use Rattle.std.proofs.lemmas.Bool.Decides.{Decides-not}
@@ -24,7 +25,7 @@ use Rattle.bounds.specs.Sets.{root_set}
 use Rattle.bounds.specs.Tightening.{reach, cut_by_children, cut_children, upward, downward, tightened, same_bound, is_changed, Among, changed_nodes}
 use Rattle.bounds.proofs.TableLaws.{nodes_count, entry_node, inner_lower}
 use Rattle.bounds.proofs.NodeLaws.{nodes_children, nodes_upward, nodes_downward}
-use Rattle.bounds.proofs.PassingLaws.{passing_just}
+use Rattle.bounds.proofs.PassingLaws.{passing_none, passing_just, count_front}
 use Rattle.bounds.proofs.BoxLaws.{cut_part, reach_holds}
 use Rattle.bounds.proofs.SetLaws.{node_in, uncut, has, has_is, has_in, narrowed_other, narrowed_same, narrowed_length, narrowed_tree, narrow_keeps, narrow_child}
 
@@ -171,3 +172,21 @@ changed_just before after i =
     let just = passing_just (is_changed before after) (length before) i in
     let other = Decides-not (same_bound (bound_at before i) (bound_at after i)) (decides_same (bound_at before i) (bound_at after i)) in
     (λ h. let g = just.0 h in (g.0, other.0 g.1), λ h. just.1 (h.0, other.1 h.1))
+
+-- Of two tables side by side as many nodes are other than before as are told as changed.
+
+abbrev pub is_other : BoundedNode × BoundedNode → Bool
+is_other p = not (same_bound p.0.bound p.1.bound)
+
+length_one : (t : Bool) (p : BoundedNode × BoundedNode) (rest : List (BoundedNode × BoundedNode)) → length (cond t (p ∷ rest) rest) ≡ cond t 1 0 + length rest
+length_one true p rest = omega arith
+length_one false p rest = omega arith
+
+pub changed_count : (before after : List BoundedNode) → length after ≡ length before → length (filter is_other (zip before after)) ≡ length (changed_nodes before after)
+changed_count [] after e = ap length (sym (passing_none (is_changed [] after)))
+changed_count (b ∷ before) [] e = absurd (omega arith)
+changed_count (b ∷ before) (a ∷ after) e =
+    let rest : length (filter is_other (zip before after)) ≡ length (changed_nodes before after) = changed_count before after (omega arith) in
+    length_one (is_other (b, a)) (b, a) (filter is_other (zip before after))
+    ∙ ap (λ n. cond (is_other (b, a)) 1 0 + n) rest
+    ∙ sym (count_front (is_changed (b ∷ before) (a ∷ after)) (length before))

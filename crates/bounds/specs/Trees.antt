@@ -3,7 +3,6 @@ use Rattle.std.specs.Prelude.{ℕ, cond, List, length, take, Some, None, Ok, Err
 use Rattle.trees.specs.declared.fault.Fault.{Fault}
 use Rattle.trees.specs.Faults.{Told, told_of}
 use Rattle.bounds.specs.declared.bounded_node.BoundedNode.{BoundedNode}
-use Rattle.bounds.specs.declared.table.NodeTable.{NodeTable}
 use Rattle.bounds.specs.declared.tree.BoundedTree.{BoundedTree}
 use Rattle.bounds.specs.declared.covering_leaves.CoveringLeaves.{CoveringLeaves}
 use Rattle.bounds.specs.Tables.{entries}
@@ -24,8 +23,3 @@ possible_at items i d = cond (nat_lt i (length items)) (Some (slice_index_or ite
 abbrev pub told_tree : Result BoundedTree Fault → Result (List BoundedNode) Told
 told_tree (Ok t) = Ok (nodes_of t)
 told_tree (Err f) = Err (told_of f)
-
--- The same for a table.
-abbrev pub told_table : Result NodeTable Fault → Result (List BoundedNode) Told
-told_table (Ok t) = Ok (entries t)
-told_table (Err f) = Err (told_of f)

@@ -1,39 +1,35 @@
-// The leaf nodes that cover a tree.
-ghost use Rattle.std.specs.Prelude.{◌≡◌, ℕ, ◌<◌, ◌≤◌, false, ◌||◌, length, get_or, if◌then◌else◌, nat_le, slice_index_or};
-ghost use Rattle.bounds.specs.Tables.{entries, nodes_in, Good};
+// The leaf nodes that cover a tree, by recursion over its nodes: the number of the node falls.
+ghost use Rattle.std.specs.Prelude.{◌≡◌, ℕ, ◌+◌, ◌<◌, ◌≤◌, false, ◌||◌, length, get_or, if◌then◌else◌, nat_le, slice_index_or};
+ghost use Rattle.bounds.specs.Tables.{nodes_in};
 ghost use Rattle.bounds.specs.Tightening.{passing};
 ghost use Rattle.bounds.specs.Covering.{cover_at, covering_leaves};
-ghost use Rattle.bounds.specs.Trees.{numbers_of};
+ghost use Rattle.bounds.specs.Trees.{nodes_of, numbers_of};
 ghost use Rattle.bounds.specs.Laws.{CoverLaw};
 
 use crate::covering_leaves::CoveringLeaves;
-use crate::table::NodeTable;
-use trees::{Node, Operation};
+use crate::tree::BoundedTree;
+use trees::{MOST_NODES, Node, Operation};
 
 // The numbers of the marks, in rising order.
-fn gathered(marks: &[bool; 127], count: usize) -> CoveringLeaves
-    requires { count ≤ 127 }
-    ensures { numbers_of result ≡ passing (λ j. get_or marks.now j false) count }
+fn gathered(marks: &[bool]) -> CoveringLeaves
+    requires { length marks.now ≤ 127 }
+    ensures { numbers_of result ≡ passing (λ j. get_or marks.now j false) (length marks.now) }
 {
-    let mut numbers = [0; 127];
-    let mut found = 0;
-    for number in 0..count {
-        if marks[number] {
-            numbers[found] = number as u16;
-            found += 1;
+    let mut leaves = CoveringLeaves::new();
+    for (number, marked) in marks.iter().enumerate() {
+        if *marked {
+            leaves.push(number as u16);
         }
     }
-    CoveringLeaves {
-        numbers,
-        count: found,
-    }
+    leaves
 }
 
-impl NodeTable {
-    // How many leaf nodes a node is made of.
+impl BoundedTree {
+    // How many leaf nodes a node is made of; no more than there are nodes up to it.
     fn leaf_count(&self, number: u16) -> u16
-        requires { (Good self.now) × (number < self.now.count) }
-        ensures { result ≡ (cover_at (nodes_in (entries self.now)) number).leaves }
+        requires { number < length (nodes_of self.now) }
+        ensures is { result ≡ (cover_at (nodes_in (nodes_of self.now)) number).leaves }
+        ensures few { result ≤ number + 1 }
     {
         match self.entry(number).node {
             Node::Leaf(_) => 1,
@@ -43,8 +39,8 @@ impl NodeTable {
 
     // Of two nodes the one that is made of fewer leaf nodes, the first if they have as many.
     fn fewer(&self, left: u16, right: u16) -> u16
-        requires { (Good self.now) × ((left < self.now.count) × (right < self.now.count)) }
-        ensures { result ≡ (if nat_le (cover_at (nodes_in (entries self.now)) left).leaves (cover_at (nodes_in (entries self.now)) right).leaves then left else right) }
+        requires { (left < length (nodes_of self.now)) × (right < length (nodes_of self.now)) }
+        ensures { result ≡ (if nat_le (cover_at (nodes_in (nodes_of self.now)) left).leaves (cover_at (nodes_in (nodes_of self.now)) right).leaves then left else right) }
     {
         if self.leaf_count(left) <= self.leaf_count(right) {
             left
@@ -54,9 +50,10 @@ impl NodeTable {
     }
 
     // Marks the leaf nodes that cover a node.
-    pub(crate) fn mark(&self, number: u16, marks: &mut [bool; 127])
-        requires { (Good self.now) × (number < self.now.count) }
-        ensures { (j : ℕ) → slice_index_or marks.new j false ≡ (slice_index_or marks.old j false || (cover_at (nodes_in (entries self.now)) number).covers j) }
+    // In the caller's array, since marks that were handed back would be copied and joined at each inner node.
+    fn mark(&self, number: u16, marks: &mut [bool; MOST_NODES])
+        requires { number < length (nodes_of self.now) }
+        ensures { (j : ℕ) → slice_index_or marks.new j false ≡ (slice_index_or marks.old j false || (cover_at (nodes_in (nodes_of self.now)) number).covers j) }
     {
         match self.entry(number).node {
             Node::Leaf(_) => marks[number as usize] = true,
@@ -71,14 +68,14 @@ impl NodeTable {
         }
     }
 
-    // The leaf nodes that cover the root.
-    pub(crate) fn covering(&self) -> CoveringLeaves
-        requires { Good self.now }
-        ensures is { numbers_of result ≡ covering_leaves (nodes_in (entries self.now)) }
-        ensures law { CoverLaw (entries self.now) }
+    // The leaf nodes that cover the tree.
+    #[tactic(auto, using(crate::proofs::CoverLaws::cover_law))]
+    pub fn covering(&self) -> CoveringLeaves
+        ensures is { numbers_of result ≡ covering_leaves (nodes_in (nodes_of self.now)) }
+        ensures law { CoverLaw (nodes_of self.now) }
     {
-        let mut marks = [false; 127];
-        self.mark(self.count as u16 - 1, &mut marks);
-        gathered(&marks, self.count)
+        let mut marks = [false; MOST_NODES];
+        self.mark(self.root(), &mut marks);
+        gathered(&marks[..self.table.count])
     }
 }

@@ -1,11 +1,12 @@
-// The judgement of a cell, from the relations of a bank's leaves.
-ghost use Rattle.std.specs.Prelude.{◌≡◌, ◌<◌};
+// The judgement of a cell, from the relations of a bank's leaves. What is done with relations here serves trees alone, and so
+// stands here as free functions and not with the type in the crate below.
+ghost use Rattle.std.specs.Prelude.{◌≡◌, ◌<◌, length};
 ghost use Rattle.pattern.specs.Relations.{Says};
-ghost use Rattle.bounds.specs.Tables.{entries, Good};
 ghost use Rattle.bounds.specs.Sets.{root_set};
 ghost use Rattle.bounds.specs.Judgement.{opposite, union_of, both_of, join_relations, asks_right, judged_at, judged};
+ghost use Rattle.bounds.specs.Trees.{nodes_of};
 
-use crate::table::NodeTable;
+use crate::tree::BoundedTree;
 use grid::Cell;
 use pattern::{Bank, Relation};
 use trees::{Node, Operation};
@@ -25,13 +26,10 @@ fn swapped(relation: Relation) -> Relation
 fn either(left: Relation, right: Relation) -> Relation
     ensures { result ≡ union_of left right }
 {
-    match left {
-        Relation::Inside => Relation::Inside,
-        Relation::Outside => right,
-        Relation::Mixed => match right {
-            Relation::Inside => Relation::Inside,
-            _ => Relation::Mixed,
-        },
+    match (left, right) {
+        (Relation::Inside, _) | (_, Relation::Inside) => Relation::Inside,
+        (Relation::Outside, Relation::Outside) => Relation::Outside,
+        _ => Relation::Mixed,
     }
 }
 
@@ -46,77 +44,62 @@ fn both(left: Relation, right: Relation) -> Relation
 fn joined(operation: Operation, left: Relation, right: Relation) -> Relation
     ensures { result ≡ join_relations operation left right }
 {
-    match operation {
-        Operation::Union => either(left, right),
-        Operation::Both => both(left, right),
-        Operation::Less => both(left, swapped(right)),
-        Operation::Differ => match left {
-            Relation::Inside => swapped(right),
-            Relation::Outside => right,
-            Relation::Mixed => Relation::Mixed,
-        },
+    match (operation, left) {
+        (Operation::Union, _) => either(left, right),
+        (Operation::Both, _) => both(left, right),
+        (Operation::Less, _) => both(left, swapped(right)),
+        (Operation::Differ, Relation::Inside) => swapped(right),
+        (Operation::Differ, Relation::Outside) => right,
+        (Operation::Differ, Relation::Mixed) => Relation::Mixed,
     }
 }
 
-// Whether the right child can still change the relation of a node.
+// Whether the right child can still change the relation of a node. A test beside `joined`, and no closure that it calls:
+// the answer depends on the node's bound too, of which `joined` knows nothing.
 fn asks_right(operation: Operation, bound: Relation, left: Relation) -> bool
     ensures { result ≡ asks_right operation bound left }
 {
     match operation {
-        Operation::Union => match left {
-            Relation::Inside => false,
-            Relation::Outside => true,
-            Relation::Mixed => match bound {
-                Relation::Inside => true,
-                _ => false,
-            },
-        },
-        Operation::Both | Operation::Less => match left {
-            Relation::Outside => false,
-            _ => true,
-        },
-        Operation::Differ => match left {
-            Relation::Mixed => false,
-            _ => true,
-        },
+        Operation::Union => matches!(
+            (left, bound),
+            (Relation::Outside, _) | (Relation::Mixed, Relation::Inside)
+        ),
+        Operation::Both | Operation::Less => left != Relation::Outside,
+        Operation::Differ => left != Relation::Mixed,
     }
 }
 
-impl NodeTable {
+impl BoundedTree {
     // The judgement of a cell by a node. The bank is asked only for what can change it.
     fn judge_at<B: Bank>(&self, bank: &B, cell: Cell, number: u16) -> Relation
-        requires { (Good self.now) × (number < self.now.count) }
-        ensures { result ≡ judged_at (B.Bank.meaning bank.now) (entries self.now) cell number }
+        requires { number < length (nodes_of self.now) }
+        ensures { result ≡ judged_at (B.Bank.meaning bank.now) (nodes_of self.now) cell number }
     {
         let entry = self.entry(number);
         let bound = Relation::of_box(entry.bound, cell);
-        if let Relation::Outside = bound {
+        if bound == Relation::Outside {
             return Relation::Outside;
         }
         match entry.node {
             Node::Leaf(leaf) => both(bound, bank.relation(leaf, cell)),
             Node::Inner(operation, left, right) => {
                 let left = self.judge_at(bank, cell, left);
-                if asks_right(operation, bound, left) {
-                    both(
-                        bound,
-                        joined(operation, left, self.judge_at(bank, cell, right)),
-                    )
+                let right = if asks_right(operation, bound, left) {
+                    self.judge_at(bank, cell, right)
                 } else {
-                    both(bound, joined(operation, left, Relation::Outside))
-                }
+                    Relation::Outside
+                };
+                both(bound, joined(operation, left, right))
             }
         }
     }
 
-    // The judgement of a cell by the root.
-    pub(crate) fn judge<B: Bank>(&self, bank: &B, cell: Cell) -> Relation
-        requires { Good self.now }
-        ensures is { result ≡ judged (B.Bank.meaning bank.now) (entries self.now) cell }
-        ensures law { Says result (root_set (B.Bank.meaning bank.now).sets (entries self.now)) cell }
+    // How the bounded set of the root lies to a cell.
+    pub fn judge<B: Bank>(&self, bank: &B, cell: Cell) -> Relation
+        ensures is { result ≡ judged (B.Bank.meaning bank.now) (nodes_of self.now) cell }
+        ensures law { Says result (root_set (B.Bank.meaning bank.now).sets (nodes_of self.now)) cell }
         ensures own { (B.Bank.meaning bank.now).sets ≡ B.Pattern.sets bank.now }
     {
-        bank.own_sets();
-        self.judge_at(bank, cell, self.count as u16 - 1)
+        self.judge_at(bank, cell, self.root())
     }
 }

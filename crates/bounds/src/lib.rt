@@ -2,7 +2,6 @@
 #![tactic(auto)]
 
 mod bounded_node;
-mod calls;
 mod changes;
 mod covering;
 mod covering_leaves;

@@ -1,16 +1,17 @@
 -- What the byte of a column shows of the column's places. Assumes nothing.
-use Rattle.std.proofs.Common.{◌≡◌, ℕ, ◌≤◌, Bool, true, false, not, eqb, ltb, leb, Some, None, Decides, Option, sym, refl, ◌∙◌, ⊎_elim, arith}
+use Rattle.std.proofs.Common.{◌≡◌, ℕ, ◌≤◌, Bool, true, false, not, eqb, ltb, leb, Some, None, Decides, Option, sym, refl, ◌∙◌, subst, ⊎_elim, arith}
 use Rattle.std.proofs.lemmas.Bool.{and_from, and_parts, and_right, cases_eq, eq-eqb, eqb-false, eqb-true, false≢true, le-leb, leb-true, lt-ltb, ltb-true, ne_eqb, not-true, or_cases}
-use Rattle.std.proofs.lemmas.Bool.Decides.{Decides-at, Decides-like, nat_tests}
+use Rattle.std.proofs.lemmas.Bool.Decides.{Decides-like, nat_tests}
 use Rattle.grid.specs.declared.axis.Axis.TheVariants.{Needle, Course, Track}
 use Rattle.grid.specs.declared.cell.Cell.{Cell}
 use Rattle.grid.specs.declared.place.Place.{Place}
 use Rattle.grid.specs.Axes.{along}
 use Rattle.grid.specs.Places.{at, place_at}
 use Rattle.grid.specs.Cells.{lo, hi}
+use Rattle.pattern.specs.declared.relation.Relation.{Relation}
 use Rattle.pattern.specs.Sets.{PlaceSet}
 use Rattle.charts.specs.Charts.{names}
-use Rattle.charts.specs.Judging.{Somewhere, Shows, HasColumn, OnColumn, held_by, free_by}
+use Rattle.charts.specs.Judging.{Somewhere, Shows, HasColumn, OnColumn, held_by, free_by, seen_relation, Tells}
 
 -- some track from low to high is named by the byte, or, if the answer is false, is not
 SomeTrack : Option ℕ → ℕ → ℕ → Bool → Type 0
@@ -51,6 +52,18 @@ tracks_free (Some byte) low high ordered top = (
 )
 tracks_free None low high ordered top = (λ _. (low, (omega arith, ordered, refl)), λ _. refl)
 
+-- where no track is named, some track is not
+free_unless_held : (byte : Option ℕ) (low high : ℕ) → low ≤ high → held_by byte low high ≡ false → free_by byte low high ≡ true
+free_unless_held (Some byte) low high ordered none = grind (arith, nat_tests)
+free_unless_held None low high ordered none = refl
+
+-- the relation that follows from what was seen tells it again, if anything was seen
+told_again : (P : Place → Type 0) (s : PlaceSet) (held free : Bool) → (held ≡ false → free ≡ true) → Shows P s held free → Tells P s (Some (seen_relation held free))
+told_again P s true true some shows = shows
+told_again P s true false some shows = shows
+told_again P s false true some shows = shows
+told_again P s false false some shows = absurd (false≢true (some refl))
+
 -- the cell c has a column at the needle n and the course k, and the byte decides its places
 module _ (s : PlaceSet) (c : Cell) (n k : ℕ) (byte : Option ℕ) (has : HasColumn c n k) (decides : (p : Place) → at p Needle ≡ n → at p Course ≡ k → s p ≡ names byte (at p Track)) where
   -- the place of the column on a track
@@ -80,8 +93,10 @@ module _ (s : PlaceSet) (c : Cell) (n k : ℕ) (byte : Option ℕ) (has : HasCol
       let on = some.1.0 in
       (at p Track, (on.0.0 Track, on.0.1 Track, sym (decides p on.1.0 on.1.1) ∙ some.1.1)))
 
-  pub column_shows : (held free : Bool) → held ≡ held_by byte (lo c Track) (hi c Track) → free ≡ free_by byte (lo c Track) (hi c Track) → Shows (OnColumn c n k) s held free
-  column_shows held free held-is free-is = record {
-    held_tells = Decides-at held _ held-is (on_column true _ (tracks_held byte (lo c Track) (hi c Track) (c.high.on_grid Track)));
-    free_tells = Decides-at free _ free-is (on_column false _ (tracks_free byte (lo c Track) (hi c Track) (c.ordered Track) (c.high.on_grid Track)));
-  }
+  pub column_tells : (r : Relation) → r ≡ seen_relation (held_by byte (lo c Track) (hi c Track)) (free_by byte (lo c Track) (hi c Track)) → Tells (OnColumn c n k) s (Some r)
+  column_tells r r-is =
+      subst (λ q. Tells (OnColumn c n k) s (Some q)) (sym r-is)
+      (told_again (OnColumn c n k) s _ _ (free_unless_held byte (lo c Track) (hi c Track) (c.ordered Track)) record {
+        held_tells = on_column true _ (tracks_held byte (lo c Track) (hi c Track) (c.high.on_grid Track));
+        free_tells = on_column false _ (tracks_free byte (lo c Track) (hi c Track) (c.ordered Track) (c.high.on_grid Track));
+      })

@@ -1,16 +1,19 @@
 -- What is seen of parts of a cell joins to what is seen of all of it. Assumes nothing.
-use Rattle.std.proofs.Common.{◌≡◌, ℕ, ◌+◌, ◌≤◌, Bool, true, false, ◌&&◌, ◌||◌, ◌⊎◌, Decides, sym, refl, inl, inr, ⊎_elim, arith}
+use Rattle.std.proofs.Common.{◌≡◌, ℕ, ◌+◌, ◌≤◌, Bool, true, false, ◌&&◌, ◌||◌, ◌⊎◌, Some, None, Option, Decides, subst, sym, refl, inl, inr, ⊎_elim, arith}
 use Rattle.std.proofs.lemmas.Bool.{and_parts, both_ways, cases_lt, cases_eq, cases_Bool, false≢true}
 use Rattle.std.proofs.lemmas.Bool.Decides.{Decides-at, Decides-like, Decides-or}
+use Rattle.std.specs.Option.{unwrap_or}
 use Rattle.grid.specs.declared.axis.Axis.TheVariants.{Needle, Course}
 use Rattle.grid.specs.declared.cell.Cell.{Cell}
 use Rattle.grid.specs.declared.place.Place.{Place}
 use Rattle.grid.specs.Places.{at}
 use Rattle.grid.specs.Cells.{lo, hi, In}
+use Rattle.pattern.specs.declared.relation.Relation.{Relation}
+use Rattle.pattern.specs.declared.relation.Relation.TheVariants.{Inside, Outside, Mixed}
 use Rattle.pattern.specs.Sets.{PlaceSet}
 use Rattle.pattern.specs.Relations.{AllIn, NoneIn, Exact}
 use Rattle.pattern.proofs.ExactLaws.{inside_exact, outside_exact, mixed_exact}
-use Rattle.charts.specs.Judging.{Somewhere, Shows, OnColumn, Before, seen_relation}
+use Rattle.charts.specs.Judging.{Somewhere, Shows, OnColumn, Before, seen_relation, Tells}
 
 -- every place with P has Q
 Each : (Place → Type 0) → (Place → Type 0) → Type 0
@@ -106,10 +109,17 @@ module _ (s : PlaceSet) where
     none_in : Decides false (Somewhere (λ p. In p c) s true) → NoneIn s c
     none_in nobody p i = ⊎_elim (λ t. absurd (false≢true (nobody.1 (p, (i, t))))) (λ f. f) (cases_Bool (s p))
 
-    pub shown_exact : (held free : Bool) → Shows (λ p. In p c) s held free → Exact (seen_relation held free) s c
+    shown_exact : (held free : Bool) → Shows (λ p. In p c) s held free → Exact (seen_relation held free) s c
     shown_exact true true shows =
         let one = shows.held_tells.0 refl in
         let other = shows.free_tells.0 refl in
         mixed_exact s c (λ all. both_ways (s other.0) other.1.1 (all other.0 other.1.0)) (λ none. both_ways (s one.0) (none one.0 one.1.0) one.1.1)
     shown_exact true false shows = inside_exact s c (all_seen_in shows.free_tells)
     shown_exact false free shows = outside_exact s c (none_in shows.held_tells)
+
+    -- the relation of all places is exact; where there is none it is Outside
+    pub told_exact : (seen : Option Relation) (r : Relation) → r ≡ unwrap_or seen Outside → Tells (λ p. In p c) s seen → Exact r s c
+    told_exact (Some Inside) r is tells = subst (λ q. Exact q s c) (sym is) (shown_exact true false tells)
+    told_exact (Some Mixed) r is tells = subst (λ q. Exact q s c) (sym is) (shown_exact true true tells)
+    told_exact (Some Outside) r is tells = subst (λ q. Exact q s c) (sym is) (shown_exact false true tells)
+    told_exact None r is tells = subst (λ q. Exact q s c) (sym is) (shown_exact false false tells)

@@ -49,3 +49,22 @@ free_by None low high = true
 -- The relation that follows from what was seen of all places of a cell.
 abbrev pub seen_relation : Bool → Bool → Relation
 seen_relation held free = cond held (cond free Mixed Inside) Outside
+
+-- Whether some place was seen to be in the set, by the relation of the places seen so far, if there are any.
+abbrev pub seen_held : Option Relation → Bool
+seen_held (Some Inside) = true
+seen_held (Some Mixed) = true
+seen_held (Some Outside) = false
+seen_held None = false
+
+-- Whether some place was seen to be out of the set.
+abbrev pub seen_free : Option Relation → Bool
+seen_free (Some Inside) = false
+seen_free (Some Mixed) = true
+seen_free (Some Outside) = true
+seen_free None = false
+
+-- The relation tells of the places with P which of them are in the set: all, none, or some and some not. There is none
+-- if there are no such places.
+abbrev pub Tells : (Place → Type 0) → PlaceSet → Option Relation → Type 0
+Tells P s seen = Shows P s (seen_held seen) (seen_free seen)

@@ -9,10 +9,7 @@ use grid::Place;
 fn names_track(byte: Option<u8>, track: u16) -> bool
     ensures { result ≡ names byte track }
 {
-    match byte {
-        Some(byte) => byte < 8 && byte as u16 == track,
-        None => false,
-    }
+    byte.is_some_and(|byte| byte < 8 && byte as u16 == track)
 }
 
 impl Frame {
@@ -20,20 +17,13 @@ impl Frame {
     pub(crate) fn byte_at(&self, bytes: &[u8], needle: u16, course: u16) -> Option<u8>
         ensures { result ≡ byte_at self.now bytes.now needle course }
     {
-        if needle < self.left || course < self.first {
-            return None;
-        }
-        let column = needle - self.left;
+        let column = needle.checked_sub(self.left)?;
+        let row = course.checked_sub(self.first)?;
         if column >= self.width {
             return None;
         }
-        let row = course - self.first;
         let index = row as usize * self.width as usize + column as usize;
-        if index < bytes.len() {
-            Some(bytes[index])
-        } else {
-            None
-        }
+        bytes.get(index).copied()
     }
 
     // Whether the bytes have a stitch at a place.

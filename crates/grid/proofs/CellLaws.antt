@@ -1,5 +1,6 @@
 -- Cells are known by their ends. Assumes nothing.
-use Rattle.std.proofs.Common.{◌≡◌, ℕ, ◌<◌, Bool, true, false, ◌⊎◌, Some, None, Option, sym, refl, ap, ◌∙◌, inl, inr, ⊎_elim, arith}
+use Rattle.std.proofs.Common.{◌≡◌, ℕ, ◌<◌, Bool, true, false, ◌⊎◌, Some, None, Option, sym, refl, ap, ap₂, ◌∙◌, inl, inr, ⊎_elim, arith}
+use mathlib.Core.Path.{fun_ext}
 use mathlib.Core.HLevel.{is_prop→PathP, Π_prop}
 use native.Mathlib.Bridge.{le_prop}
 use Rattle.std.proofs.lemmas.Bool.{and_from, and_cases, and_left, true≢false}
@@ -52,3 +53,7 @@ cell_if_found low high false e =
 
 pub cell_from_found : (low high : Axis → ℕ) → Found low high (cell_from low high)
 cell_from_found low high = cell_if_found low high (ends_fit low high) refl
+
+-- what is found goes by the ends alone
+pub cell_from_as : (f g h k : Axis → ℕ) → ((x : Axis) → f x ≡ h x) → ((x : Axis) → g x ≡ k x) → cell_from f g ≡ cell_from h k
+cell_from_as f g h k lows highs = ap₂ cell_from (fun_ext lows) (fun_ext highs)

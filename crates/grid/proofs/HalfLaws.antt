@@ -1,7 +1,7 @@
 -- What halving does to the places, the count and the halvings left. Assumes nothing.
 use Rattle.std.proofs.Common.{◌≡◌, ℕ, zero, suc, ◌+◌, ◌-◌, ◌/◌, ◌<◌, ◌≤◌, Bool, true, false, cond, eqb, leb, Some, None, sym, refl, ap, ◌∙◌, subst, ap₂, inl, inr, ⊎_elim, arith}
 use mathlib.Core.Path.{fun_ext}
-use Rattle.std.proofs.lemmas.Bool.{cases_lt, cond_both, cond-true, cond-false, eqb-true, leb-true, leb-false}
+use Rattle.std.proofs.lemmas.Bool.{cases_lt, cond_both, cond-true, cond-false, eqb-false, eqb-true, leb-true, leb-false}
 use Rattle.grid.specs.declared.axis.Axis.{Axis}
 use Rattle.grid.specs.declared.axis.Axis.TheVariants.{Needle, Course, Track}
 use Rattle.grid.specs.declared.place.Place.{Place}
@@ -55,6 +55,10 @@ put_same Track v f = refl
 pub put_both : (a : Axis) (v : ℕ) (f : Axis → ℕ) (P : Axis → ℕ → Type 0) → P a v → ((x : Axis) → P x (f x)) → (x : Axis) → P x (put a v f x)
 put_both a v f P here rest x =
     cond_both (eqb (rank a) (rank x)) v (f x) (P x) (λ e. subst (λ y. P y v) (same_axis a x e) here) (λ _. rest x)
+
+-- a number that is v on the axis a, and else that of f
+pub put_told : (a : Axis) (v : ℕ) (f : Axis → ℕ) (x : Axis) (n : ℕ) → (a ≡ x → n ≡ v) → ((a ≡ x → ⊥) → n ≡ f x) → n ≡ put a v f x
+put_told a v f x n here rest = cond_both (eqb (rank a) (rank x)) v (f x) (λ m. n ≡ m) (λ e. here (same_axis a x e)) (λ e. rest (λ same. eqb-false (rank a) (rank x) e (ap rank same)))
 
 -- The ends that the code puts in at the middle. It has the axis as a, the middle as m, and the new place as q; the place
 -- is what the definition asks for, and lies on the right side of the cell's other end.

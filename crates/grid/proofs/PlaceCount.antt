@@ -38,3 +38,6 @@ count_within (suc n) c h =
 
 pub places_counted : (c : Cell) → Counted everywhere c (places_of c)
 places_counted c = count_within (halvings_of c) c (omega arith)
+
+pub counted_told : (c : Cell) (n : ℕ) → n ≡ places_of c → Counted everywhere c n
+counted_told c n e = subst (Counted everywhere c) (sym e) (places_counted c)

@@ -6,10 +6,14 @@ use Rattle.grid.specs.declared.axis.Axis.{Axis}
 use Rattle.grid.specs.declared.bare.BarePlace.{BarePlace}
 use Rattle.grid.specs.declared.place.Place.{Place}
 use Rattle.grid.specs.declared.cell.Cell.{Cell}
+use Rattle.grid.specs.declared.refusal.Refusal.{Refusal}
+use Rattle.grid.specs.declared.refusal.Refusal.TheVariants.{UpsideDown}
 use Rattle.grid.specs.Axes.{top, below}
 use Rattle.grid.specs.Places.{at, place_if}
 use Rattle.grid.specs.Cells.{lo, hi, cell_from, box_of}
-use Rattle.grid.specs.Refusals.{or_refuse, numbers, place_of, workspace_of}
+use Rattle.grid.specs.Refusals.{numbered, or_refuse, numbers, place_of, workspace_of}
+use Rattle.std.specs.Option.{ok_or}
+use Rattle.std.specs.Result.{result_ok}
 use Rattle.grid.proofs.PlaceLaws.{below_false, below_fails, along_is}
 use Rattle.grid.proofs.CellLaws.{Found, cell_from_none, cell_from_found}
 
@@ -63,3 +67,18 @@ pub workspace_ended : (low high : BarePlace) → Ended (numbers low) (numbers hi
 workspace_ended low high =
     checked_ended (numbers low) (numbers high) (below (numbers low) top && below (numbers high) top) (or_refuse (cell_from (numbers low) (numbers high)) 4)
     (found_ended (numbers low) (numbers high) (cell_from (numbers low) (numbers high)) (cell_from_found (numbers low) (numbers high)))
+
+-- what was not refused is what the numbers are taken for
+pub ok_taken : {A : Type 0} (r : Result A Refusal) (a : A) (known : Result A ℕ) → result_ok r ≡ Some a → numbered r ≡ known → Ok a ≡ known
+ok_taken {A} (Ok b) a known is told =
+    let same : ◌≡◌ {A = Option A} (Some b) (Some a) = is in
+    let told : Ok b ≡ known = told in
+    cc
+ok_taken {A} (Err e) a known is told =
+    let none : ◌≡◌ {A = Option A} None (Some a) = is in
+    cc
+
+-- what is missing is refused with 4
+pub upside_down : (o : Option Cell) → numbered (ok_or o UpsideDown) ≡ or_refuse o 4
+upside_down (Some c) = refl
+upside_down None = refl

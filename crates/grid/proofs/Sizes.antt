@@ -50,6 +50,19 @@ pub halvings_least : (s : ℕ) → s ≤ 2 ^ 16 → Least s (halvings s)
 unfolding halvings
 halvings_least s h = reach_least 16 s 0 h (λ j _. omega arith)
 
+-- the library's logarithm finds it
+pub halvings_above : (s r : ℕ) → s ≤ 2 ^ 16 → 2 ^ r < s → s ≤ 2 * 2 ^ r → halvings s ≡ r + 1
+halvings_above s r small above below =
+    let l = halvings_least s small in
+    let p = pow-suc 2 r in
+    omega (arith, l.needed (suc r) (omega (arith, p)), further s r above (halvings s) l.enough)
+
+pub halvings_one : halvings 1 ≡ 0
+halvings_one = omega (arith, (halvings_least 1 (omega arith)).needed 0 (omega arith))
+
+pub halvings_16 : (s : ℕ) → s ≤ 2 ^ 16 → halvings s ≤ 16
+halvings_16 s small = (halvings_least s small).needed 16 small
+
 pub halvings_mono : (s t : ℕ) → s ≤ t → t ≤ 2 ^ 16 → halvings s ≤ halvings t
 halvings_mono s t h k = (halvings_least s (omega arith)).needed (halvings t) (omega (arith, (halvings_least t k).enough))
 

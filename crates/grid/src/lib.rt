@@ -4,14 +4,14 @@
 mod axis;
 mod bare;
 mod cell;
-mod cells;
+mod coordinates;
 mod halves;
 mod place;
-mod places;
 mod refusal;
 
 pub use axis::Axis;
 pub use bare::BarePlace;
 pub use cell::Cell;
+pub use coordinates::{Coordinates, is_below};
 pub use place::Place;
 pub use refusal::Refusal;

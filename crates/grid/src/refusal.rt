@@ -1,13 +1,16 @@
 ghost use Rattle.std.specs.Prelude.{◌≡◌};
 ghost use Rattle.grid.specs.Refusals.{number_of};
 
-// Why bare numbers are refused.
-#[derive(Clone, Copy, Debug)]
+use std::error::Error;
+use std::fmt;
+
+// Why bare numbers are refused, with the number by which that is told.
+#[derive(Clone, Copy, PartialEq, Eq, Debug)]
 pub enum Refusal {
     // A number lies off the grid.
-    OffGrid,
+    OffGrid = 3,
     // A low end lies above its high end.
-    UpsideDown,
+    UpsideDown = 4,
 }
 
 impl Refusal {
@@ -15,9 +18,17 @@ impl Refusal {
     pub fn number(&self) -> u16
         ensures { result ≡ number_of self.now }
     {
-        match self {
-            Refusal::OffGrid => 3,
-            Refusal::UpsideDown => 4,
-        }
+        *self as u16
     }
 }
+
+impl fmt::Display for Refusal {
+    fn fmt<W: fmt::Write>(&self, f: &mut fmt::Formatter<W>) -> fmt::Result {
+        f.write_str(match self {
+            Refusal::OffGrid => "a number is off the grid",
+            Refusal::UpsideDown => "a low end is above its high end",
+        })
+    }
+}
+
+impl Error for Refusal {}

@@ -1,7 +1,9 @@
--- A shape list owes what every bank owes. Assumes nothing.
-use Rattle.std.proofs.Common.{◌≡◌, ℕ, zero, suc, ◌<◌, ◌≤◌, min, true, List, [], ◌∷◌, map, length, get_or, take, None, ap, ◌∙◌, arith}
-use Rattle.std.proofs.lemmas.List.{length-take, length-map, get_or-take, get_or-map, get_or_past}
+-- A shape list owes what every bank owes; and what its calls find is what its meaning says. Assumes nothing.
+use Rattle.std.proofs.Common.{◌≡◌, ℕ, zero, suc, ◌<◌, ◌≤◌, min, true, List, [], ◌∷◌, map, length, get_or, take, Some, None, Option, Bor, sym, ap, ◌∙◌, arith}
+use Rattle.std.proofs.lemmas.List.{take_min, length-take, length-map, get_or-take, get_or-map, get_or_past}
 use Rattle.std.proofs.lemmas.Bool.{false≢true}
+use Rattle.std.specs.Option.{option_copied, option_map, unwrap_or}
+use Rattle.std.specs.Slice.{IsItemAt}
 use Rattle.grid.specs.declared.place.Place.{Place}
 use Rattle.grid.specs.Laws.{Holds}
 use Rattle.grid.proofs.Meanings.{in_grid}
@@ -11,8 +13,8 @@ use Rattle.pattern.specs.Banks.{Facts}
 use Rattle.pattern.proofs.ExactLaws.{exactly_says, exactly_nowhere}
 use Rattle.shapes.specs.declared.shape.Shape.{Shape}
 use Rattle.shapes.specs.declared.shape.Shape.TheVariants.{Block, Slope}
-use Rattle.shapes.specs.Shapes.{shape_set, shape_bound}
-use Rattle.lists.specs.ShapeLists.{counting, sets_of, meaning_of_shapes}
+use Rattle.shapes.specs.Shapes.{shape_set, shape_bound, possible_set, possible_bound}
+use Rattle.lists.specs.ShapeLists.{counting, counted, sets_of, bound_at, meaning_of_shapes}
 use Rattle.shapes.proofs.BlockLaws.{decides_block}
 
 -- the values of the first n of a list: how many there are, the one at a number, and what is read past them
@@ -50,6 +52,33 @@ module _ {Y : Type 0} (f : Shape → Y) (shapes : List Shape) where
 counting_matched : {Y Z : Type 0} (f : Shape → Y) (g : Shape → Z) (d : Y) (e : Z) (P : Y → Z → Type 0) → ((s : Shape) → P (f s) (g s)) → P d e → (shapes : List Shape) (i : ℕ) → P (get_or (counting f shapes) i d) (get_or (counting g shapes) i e)
 unfolding counting
 counting_matched f g d e P each past shapes i = matched f g d e P each past 65535 shapes i
+
+-- the shapes that count: how many they are, and their values
+
+pub counted_taken : (n : ℕ) (shapes : List Shape) → n ≡ min (length shapes) 65535 → take n shapes ≡ counted shapes
+unfolding counted
+counted_taken n shapes is = let e : n ≡ min 65535 (length shapes) = omega arith in ap (λ k. take k shapes) e ∙ take_min 65535 shapes
+
+pub length_counted : (shapes : List Shape) → length (counted shapes) ≡ min (length shapes) 65535
+unfolding counted
+length_counted shapes = omega (arith, length-take 65535 shapes)
+
+-- the value of the shape that is found at a number, or what stands for a missing one
+value_told : {Y : Type 0} (f : Shape → Y) (none : Y) (shapes : List Shape) (leaf : ℕ) (r : Option (Bor Shape)) → IsItemAt (counted shapes) leaf r → unwrap_or (option_map f (option_copied r)) none ≡ get_or (counting f shapes) leaf none
+unfolding counted
+value_told f none shapes leaf None is =
+    sym (counting_past f shapes leaf none (omega (arith, length_counted shapes, is)))
+value_told f none shapes leaf (Some x) is =
+    let counts : leaf < min (length shapes) 65535 = omega (arith, length_counted shapes, is) in
+    ap f (is.1 ∙ get_or-take 65535 shapes leaf x.now (omega arith)) ∙ sym (counting_at f shapes leaf x.now none counts)
+
+pub set_told : (shapes : List Shape) (leaf : ℕ) (r : Option (Bor Shape)) → IsItemAt (counted shapes) leaf r → possible_set (option_copied r) ≡ leaf_set (sets_of shapes) leaf
+set_told shapes leaf None = value_told shape_set nowhere shapes leaf None
+set_told shapes leaf (Some x) = value_told shape_set nowhere shapes leaf (Some x)
+
+pub bound_told : (shapes : List Shape) (leaf : ℕ) (r : Option (Bor Shape)) → IsItemAt (counted shapes) leaf r → possible_bound (option_copied r) ≡ bound_at shapes leaf
+bound_told shapes leaf None = value_told shape_bound None shapes leaf None
+bound_told shapes leaf (Some x) = value_told shape_bound None shapes leaf (Some x)
 
 shape_bounds : (p : Place) (s : Shape) → shape_set s p ≡ true → Holds (shape_bound s) p
 shape_bounds p (Block b) t = (decides_block b p).0 t

@@ -12,6 +12,10 @@ use Rattle.shapes.specs.Shapes.{shape_set, shape_bound}
 unfoldable pub counting : {A : Type 0} → (Shape → A) → List Shape → List A
 counting f shapes = take 65535 (map f shapes)
 
+-- The shapes that count, in order.
+unfoldable pub counted : List Shape → List Shape
+counted shapes = take 65535 shapes
+
 -- The sets of the shapes.
 abbrev pub sets_of : List Shape → List PlaceSet
 sets_of = counting shape_set

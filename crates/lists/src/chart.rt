@@ -1,14 +1,16 @@
-// Charts: all stitches together are the one leaf.
-ghost use Rattle.std.specs.Prelude.{◌≡◌};
+// Charts: all stitches together are one area.
+ghost use Rattle.std.specs.Prelude.{◌≡◌, length};
+ghost use Rattle.charts.specs.Charts.{stitch_set};
+ghost use Rattle.charts.specs.Relations.{chart_bound, chart_relation};
 ghost use Rattle.charts.proofs.ChartLaws.{chart_facts};
-ghost use Rattle.lists.specs.Charts.{frame, frame_of, bytes_of, leaves_of, meaning_of};
+ghost use Rattle.lists.specs.Charts.{frame, frame_of, bytes_of};
 
 use charts::Frame;
 use grid::{Cell, Place};
-use pattern::{Bank, Pattern, Relation};
+use pattern::{Area, Relation};
 
 // Rows of bytes in the caller's memory, in their frame.
-#[derive(Clone, Copy)]
+#[derive(Clone, Copy, PartialEq, Eq, Debug)]
 pub struct Chart<'a> {
     frame: Frame,
     bytes: &'a [u8],
@@ -26,38 +28,24 @@ impl<'a> Chart<'a> {
     }
 }
 
-impl<'a> Pattern for Chart<'a> {
-    ghost sets = { leaves_of };
+impl<'a> Area for Chart<'a> {
+    ghost set = { λ c. stitch_set (frame_of c) (bytes_of c) };
 
-    fn leaves(&self) -> u16 {
-        1
-    }
+    ghost limits = { λ c. chart_bound (frame_of c) (length (bytes_of c)) };
 
-    fn holds(&self, leaf: u16, place: Place) -> bool {
-        leaf == 0 && self.frame.stitches(self.bytes, place)
-    }
-}
-
-impl<'a> Bank for Chart<'a> {
-    ghost meaning = { meaning_of };
+    ghost lies_to = { λ c. chart_relation (frame_of c) (bytes_of c) };
 
     ghost facts = { λ c. chart_facts (frame_of c) (bytes_of c) };
 
-    fn bound(&self, leaf: u16) -> Option<Cell> {
-        if leaf == 0 {
-            self.frame.bound(self.bytes.len())
-        } else {
-            None
-        }
+    fn has(&self, place: Place) -> bool {
+        self.frame.stitches(self.bytes, place)
     }
 
-    fn relation(&self, leaf: u16, cell: Cell) -> Relation {
-        if leaf == 0 {
-            self.frame.relation(self.bytes, cell)
-        } else {
-            Relation::Outside
-        }
+    fn limits(&self) -> Option<Cell> {
+        self.frame.bound(self.bytes.len())
     }
 
-    fn own_sets(&self) {}
+    fn lies_to(&self, cell: Cell) -> Relation {
+        self.frame.relation(self.bytes, cell)
+    }
 }

@@ -3,7 +3,6 @@
 
 mod chart;
 mod pass_list;
-mod pass_lists;
 mod shape_list;
 
 pub use chart::Chart;

@@ -1,5 +1,5 @@
 -- A pass list owes what every bank owes. Assumes nothing.
-use Rattle.std.proofs.Common.{◌≡◌, Bool, true, false, ◌||◌, ◌⊎◌, List, [], ◌∷◌, None, Decides, Option, refl, inl, inr, ⊎_elim, arith}
+use Rattle.std.proofs.Common.{◌≡◌, Bool, true, false, ◌||◌, ◌⊎◌, List, [], ◌∷◌, None, Decides, Option, sym, refl, subst, inl, inr, ⊎_elim, arith}
 use Rattle.std.proofs.lemmas.Bool.{or_cases, or_left, or_right, or_from, false≢true}
 use Rattle.std.proofs.lemmas.Bool.Decides.{nat_tests}
 use Rattle.grid.specs.declared.axis.Axis.TheVariants.{Needle, Course, Track}
@@ -85,3 +85,7 @@ passes_hull xs = record { all = λ p t. hull_holds xs None p (inr t); least = λ
 
 pub passes_facts : (xs : List Pass) → Facts (one_leaf (passes_set xs) (passes_bound xs) (passes_relation xs))
 passes_facts xs = one_leaf_facts (passes_set xs) (passes_bound xs) (passes_relation xs) (passes_hull xs).all (passes_say xs)
+
+-- the same of any answer that is the bound
+pub hull_told : (xs : List Pass) (r : Option Cell) → r ≡ passes_bound xs → HullOfPasses xs r
+hull_told xs r is = subst (HullOfPasses xs) (sym is) (passes_hull xs)

@@ -1,61 +1,53 @@
--- What is left of a pass list after one more of its passes. Assumes nothing.
-use Rattle.std.proofs.Common.{◌≡◌, ℕ, ◌+◌, ◌<◌, Bool, true, false, ◌||◌, List, length, get_or, drop, sym, refl, ap, ◌∙◌, subst}
-use Rattle.std.proofs.lemmas.List.{at_drop_more}
+-- What the first passes of a list say of a cell, with one more pass. Assumes nothing.
+use Rattle.std.proofs.Common.{◌≡◌, ℕ, ◌+◌, ◌<◌, Bool, true, false, ◌||◌, List, Option, length, get_or, take, refl, ap, sym, ◌∙◌}
+use Rattle.std.proofs.lemmas.List.Folds.{list_any_more}
 use Rattle.grid.specs.declared.cell.Cell.{Cell}
 use Rattle.pattern.specs.declared.relation.Relation.{Relation}
-use Rattle.pattern.specs.declared.relation.Relation.TheVariants.{Inside, Outside, Mixed}
+use Rattle.pattern.specs.declared.relation.Relation.TheVariants.{Outside, Mixed}
 use Rattle.pattern.specs.Relations.{box_holds, box_meets, boxed, box_relation}
 use Rattle.passes.specs.declared.pass.Pass.{Pass}
-use Rattle.passes.specs.Passes.{some, pass_box}
+use Rattle.passes.specs.Passes.{some, pass_box, passes_relation}
 
-module _ (xs : List Pass) (i : ℕ) (d : Pass) (within : i < length xs) where
-  pub some_next : (test : Pass → Bool) (b : Bool) → b ≡ test (get_or xs i d) → some test (drop i xs) ≡ (b || some test (drop (i + 1) xs))
-  some_next test b told = at_drop_more (some test) xs i d within ∙ ap (λ t. t || some test (drop (i + 1) xs)) (sym told)
+-- none of the first i passes holds the cell, and this is how they lie to it
+pub record SoFar (c : Cell) (xs : List Pass) (i : ℕ) (seen : Relation) : Type 0 where
+  pub unsettled : some (λ s. box_holds (pass_box s) c) (take i xs) ≡ false
+  pub seen_is : seen ≡ passes_relation (take i xs) c
 
--- how the passes from i on lie to the cell, if one before them met it or none did
-abbrev pub onward : Cell → Bool → List Pass → Relation
-onward c met rest = boxed (some (λ s. box_holds (pass_box s) c) rest) (met || some (λ s. box_meets (pass_box s) c) rest)
+-- a pass beside others of which none holds the cell, by whether they meet it (M), and whether it holds (h) and meets it (m)
 
--- one more pass, by its relation r: Inside settles it, Mixed is a meeting, Outside is nothing
-abbrev Turned : Relation → Bool → Bool → Bool → Bool → Bool → Type 0
-Turned Inside met h m H M = boxed (h || H) (met || (m || M)) ≡ Inside
-Turned Mixed met h m H M = boxed H (true || M) ≡ boxed (h || H) (met || (m || M))
-Turned Outside met h m H M = boxed H (met || M) ≡ boxed (h || H) (met || (m || M))
+mixed_next : (M h m : Bool) → boxed h m ≡ Mixed → (h ≡ false) × (Mixed ≡ boxed false (M || m))
+mixed_next M true m e = absurd (cc)
+mixed_next M false false e = absurd (cc)
+mixed_next true false true e = (refl, refl)
+mixed_next false false true e = (refl, refl)
 
-turned : (met h m H M : Bool) → Turned (boxed h m) met h m H M
-turned met true m H M = refl
-turned true false true H M = refl
-turned false false true H M = refl
-turned met false false H M = refl
+outside_next : (M h m : Bool) → boxed h m ≡ Outside → (h ≡ false) × (boxed false M ≡ boxed false (M || m))
+outside_next M true m e = absurd (cc)
+outside_next M false true e = absurd (cc)
+outside_next true false false e = (refl, refl)
+outside_next false false false e = (refl, refl)
 
-module _ (c : Cell) (xs : List Pass) (i : ℕ) (d : Pass) (within : i < length xs) (met : Bool) (r : Relation) (told : r ≡ box_relation (pass_box (get_or xs i d)) c) where
-  H : Bool
-  H = some (λ s. box_holds (pass_box s) c) (drop (i + 1) xs)
+-- one more pass
+module _ (c : Cell) (xs : List Pass) (i : ℕ) (d : Pass) (seen next r : Relation) (box : Option Cell) where
+  Met : List Pass → Bool
+  Met = some (λ s. box_meets (pass_box s) c)
 
-  M : Bool
-  M = some (λ s. box_meets (pass_box s) c) (drop (i + 1) xs)
+  more : i < length xs → SoFar c xs i seen → box_holds (pass_box (get_or xs i d)) c ≡ false → next ≡ boxed false (Met (take i xs) || box_meets (pass_box (get_or xs i d)) c) → SoFar c xs (i + 1) next
+  unfolding Met
+  more within so free is =
+      let held = list_any_more (λ s. box_holds (pass_box s) c) xs i d within in
+      let met = list_any_more (λ s. box_meets (pass_box s) c) xs i d within in
+      let none = held ∙ ap (λ b. b || box_holds (pass_box (get_or xs i d)) c) so.unsettled ∙ free in
+      record { unsettled = none; seen_is = rw (none, met) is }
 
-  h : Bool
-  h = box_holds (pass_box (get_or xs i d)) c
+  pub more_mixed : i < length xs → box ≡ pass_box (get_or xs i d) → r ≡ box_relation box c → r ≡ Mixed → next ≡ Mixed → SoFar c xs i seen → SoFar c xs (i + 1) next
+  unfolding Met
+  more_mixed within box-is told is next-is so =
+      let at = mixed_next (Met (take i xs)) (box_holds (pass_box (get_or xs i d)) c) (box_meets (pass_box (get_or xs i d)) c) (ap (λ b. box_relation b c) (sym box-is) ∙ sym told ∙ is) in
+      more within so at.0 (next-is ∙ at.1)
 
-  m : Bool
-  m = box_meets (pass_box (get_or xs i d)) c
-
-  now_is : onward c met (drop i xs) ≡ boxed (h || H) (met || (m || M))
-  unfolding H M h m
-  now_is = at_drop_more (onward c met) xs i d within
-
-  turned_here : Turned r met h m H M
-  unfolding h m
-  turned_here = subst (λ q. Turned q met h m H M) (sym told) (turned met h m H M)
-
-  pub settled : r ≡ Inside → onward c met (drop i xs) ≡ Inside
-  settled e = now_is ∙ subst (λ q. Turned q met h m H M) e turned_here
-
-  pub met_one : r ≡ Mixed → onward c true (drop (i + 1) xs) ≡ onward c met (drop i xs)
-  unfolding H M
-  met_one e = subst (λ q. Turned q met h m H M) e turned_here ∙ sym now_is
-
-  pub met_none : r ≡ Outside → onward c met (drop (i + 1) xs) ≡ onward c met (drop i xs)
-  unfolding H M
-  met_none e = subst (λ q. Turned q met h m H M) e turned_here ∙ sym now_is
+  pub more_outside : i < length xs → box ≡ pass_box (get_or xs i d) → r ≡ box_relation box c → r ≡ Outside → next ≡ seen → SoFar c xs i seen → SoFar c xs (i + 1) next
+  unfolding Met
+  more_outside within box-is told is next-is so =
+      let at = outside_next (Met (take i xs)) (box_holds (pass_box (get_or xs i d)) c) (box_meets (pass_box (get_or xs i d)) c) (ap (λ b. box_relation b c) (sym box-is) ∙ sym told ∙ is) in
+      more within so at.0 (next-is ∙ so.seen_is ∙ ap (λ b. boxed b (Met (take i xs))) so.unsettled ∙ at.1)

@@ -1,5 +1,6 @@
 -- The places that carriage passes knit, the hull of these, and how they lie to a cell.
-use Rattle.std.specs.Prelude.{◌≡◌, Bool, true, false, ◌&&◌, ◌||◌, List, [], ◌∷◌, None, Option, ◌==◌, nat_le}
+use Rattle.std.specs.Prelude.{◌≡◌, Bool, true, ◌&&◌, List, None, Option, ◌==◌, nat_le}
+use Rattle.std.specs.List.{list_any, fold}
 use Rattle.grid.specs.declared.axis.Axis.TheVariants.{Needle, Course, Track}
 use Rattle.grid.specs.declared.cell.Cell.{Cell}
 use Rattle.grid.specs.declared.place.Place.{Place}
@@ -18,8 +19,7 @@ pass_set s p = at p Course == s.course && (at p Track == s.track && (nat_le s.fr
 
 -- The test passes for some pass of the list.
 abbrev pub some : (Pass → Bool) → List Pass → Bool
-some test [] = false
-some test (s ∷ rest) = test s || some test rest
+some = list_any
 
 -- A pass list holds the places that some pass of it holds.
 abbrev pub passes_set : List Pass → PlaceSet
@@ -31,8 +31,7 @@ pass_box s = box_of (along s.from s.course s.track) (along s.to s.course s.track
 
 -- The hull of a possible cell and of the passes, each cut by the grid.
 abbrev pub hull_with : Option Cell → List Pass → Option Cell
-hull_with b [] = b
-hull_with b (s ∷ rest) = hull_with (hull_of b (pass_box s)) rest
+hull_with = fold (λ hull s. hull_of hull (pass_box s))
 
 -- The bound of a pass list: the hull of its passes.
 abbrev pub passes_bound : List Pass → Option Cell

@@ -1,5 +1,4 @@
-// Carriage passes: the places that they knit, the hull of these, and how they lie to a cell. The public calls over passes
-// stand below the functions that do their work.
+// Carriage passes: the places that they knit, the hull of these, and how they lie to a cell.
 #![tactic(auto)]
 
 mod pass;
@@ -18,8 +17,7 @@ impl Pass {
     {
         place.course() == self.course
             && place.track() == self.track
-            && self.from <= place.needle()
-            && place.needle() <= self.to
+            && (self.from..=self.to).contains(&place.needle())
     }
 
     // The pass cut by the grid: a cell, or none.
@@ -33,51 +31,9 @@ impl Pass {
         };
         let high = BarePlace {
             needle: self.to,
-            course: self.course,
-            track: self.track,
+            ..low
         };
         Cell::from_box(low, high)
-    }
-}
-
-fn some_pass_holds(passes: &[Pass], place: Place) -> bool
-    ensures { result ≡ passes_set passes.now place }
-{
-    for pass in passes {
-        if pass.holds(place) {
-            return true;
-        }
-    }
-    false
-}
-
-fn hull_of(passes: &[Pass]) -> Option<Cell>
-    ensures is { result ≡ passes_bound passes.now }
-    ensures law { HullOfPasses passes.now result }
-{
-    let mut hull = None;
-    for pass in passes {
-        hull = Cell::hull(hull, pass.on_grid());
-    }
-    hull
-}
-
-// The first pass that holds all of the cell settles it.
-fn relation_of(passes: &[Pass], cell: Cell) -> Relation
-    ensures { result ≡ passes_relation passes.now cell }
-{
-    let mut met = false;
-    for pass in passes {
-        match Relation::of_box(pass.on_grid(), cell) {
-            Relation::Inside => return Relation::Inside,
-            Relation::Mixed => met = true,
-            Relation::Outside => {}
-        }
-    }
-    if met {
-        Relation::Mixed
-    } else {
-        Relation::Outside
     }
 }
 
@@ -85,7 +41,7 @@ fn relation_of(passes: &[Pass], cell: Cell) -> Relation
 pub fn some_holds(passes: &[Pass], place: Place) -> bool
     ensures { result ≡ passes_set passes.now place }
 {
-    some_pass_holds(passes, place)
+    passes.iter().any(|pass| pass.holds(place))
 }
 
 // The hull of the passes, each cut by the grid.
@@ -93,12 +49,23 @@ pub fn hull(passes: &[Pass]) -> Option<Cell>
     ensures is { result ≡ passes_bound passes.now }
     ensures law { HullOfPasses passes.now result }
 {
-    hull_of(passes)
+    passes
+        .iter()
+        .fold(None, |hull, pass| Cell::hull(hull, pass.on_grid()))
 }
 
 // How the passes lie to a cell: Inside if one pass holds all of it, Outside if none meets it, else Mixed.
 pub fn relation(passes: &[Pass], cell: Cell) -> Relation
     ensures { result ≡ passes_relation passes.now cell }
 {
-    relation_of(passes, cell)
+    // One scan that stops at the first pass that holds the cell: a rule of the project.
+    let mut seen = Relation::Outside;
+    for pass in passes {
+        match Relation::of_box(pass.on_grid(), cell) {
+            Relation::Inside => return Relation::Inside,
+            Relation::Mixed => seen = Relation::Mixed,
+            Relation::Outside => {}
+        }
+    }
+    seen
 }

@@ -1,5 +1,5 @@
 // One pass of the carriage: the needles it knits in a course, on a track. With `from` above `to` it knits none.
-#[derive(Clone, Copy)]
+#[derive(Clone, Copy, PartialEq, Eq, Debug)]
 pub struct Pass {
     pub course: u16,
     pub track: u16,

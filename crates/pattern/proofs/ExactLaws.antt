@@ -31,7 +31,7 @@ found_tested s f (Some q) only is = (
   λ t p same. ap s (let e = only p same in cc) ∙ t,
   λ h. h q (is q refl),
 )
-found_tested s f None only is = (λ t p same. absurd (let z : ◌≡◌ {A = ℕ} 0 1 = (let e = only p same in cc) in omega arith), λ h. refl)
+found_tested s f None only is = (λ t p same. absurd (let e = only p same in cc), λ h. refl)
 
 place_if_at : (f : Axis → ℕ) (b : Bool) (e : below f top ≡ b) (p : Place) → Some p ≡ place_if f b e → (x : Axis) → at p x ≡ f x
 place_if_at f true e p h x = ap (λ o. numbers o x) h ∙ along_is f x
@@ -39,7 +39,7 @@ place_if_at f true e p h x = ap (λ o. numbers o x) h ∙ along_is f x
     numbers : Option Place → Axis → ℕ
     numbers (Some q) = at q
     numbers None = top
-place_if_at f false e p h x = absurd (let z : ◌≡◌ {A = ℕ} 0 1 = cc in omega arith)
+place_if_at f false e p h x = absurd (cc)
 
 decides_tested : (s : PlaceSet) (f : Axis → ℕ) → Decides (if_there (place_from f) s) (Tested s f)
 decides_tested s f = found_tested s f (place_from f) (place_from_is f) (place_if_at f (below f top) refl)
@@ -79,15 +79,15 @@ pub not_both : (s : PlaceSet) (c : Cell) → AllIn s c → NoneIn s c → ⊥
 not_both s c all none = both_ways (s c.low) (none c.low (low_in c)) (all c.low (low_in c))
 
 pub inside_exact : (s : PlaceSet) (c : Cell) → AllIn s c → Exact Inside s c
-inside_exact s c all = record { inside = (λ _. all, λ _. refl); outside = (λ e. let z : ◌≡◌ {A = ℕ} 0 1 = cc in absurd (omega arith), λ none. absurd (not_both s c all none)) }
+inside_exact s c all = record { inside = (λ _. all, λ _. refl); outside = (λ e. absurd (cc), λ none. absurd (not_both s c all none)) }
 
 pub outside_exact : (s : PlaceSet) (c : Cell) → NoneIn s c → Exact Outside s c
-outside_exact s c none = record { inside = (λ e. let z : ◌≡◌ {A = ℕ} 0 1 = cc in absurd (omega arith), λ all. absurd (not_both s c all none)); outside = (λ _. none, λ _. refl) }
+outside_exact s c none = record { inside = (λ e. absurd (cc), λ all. absurd (not_both s c all none)); outside = (λ _. none, λ _. refl) }
 
 pub mixed_exact : (s : PlaceSet) (c : Cell) → (AllIn s c → ⊥) → (NoneIn s c → ⊥) → Exact Mixed s c
 mixed_exact s c some_out some_in = record {
-  inside = (λ e. let z : ◌≡◌ {A = ℕ} 0 1 = cc in absurd (omega arith), λ all. absurd (some_out all));
-  outside = (λ e. let z : ◌≡◌ {A = ℕ} 0 1 = cc in absurd (omega arith), λ none. absurd (some_in none));
+  inside = (λ e. absurd (cc), λ all. absurd (some_out all));
+  outside = (λ e. absurd (cc), λ none. absurd (some_in none));
 }
 
 -- an exact relation by the two tests
@@ -122,7 +122,7 @@ exact_says s c Inside e = e.inside.0 refl
 exact_says s c Outside e = e.outside.0 refl
 exact_says s c Mixed e =
     ⊎_elim
-    (λ one. absurd (single_decided s c one (λ all. let h = e.inside.1 all in let z : ◌≡◌ {A = ℕ} 0 1 = cc in omega arith) (λ none. let h = e.outside.1 none in let z : ◌≡◌ {A = ℕ} 0 1 = cc in omega arith)))
+    (λ one. absurd (single_decided s c one (λ all. let h = e.inside.1 all in cc) (λ none. let h = e.outside.1 none in cc)))
     (λ many. many) (cases_Bool (single c))
 
 pub exactly_says : (s : PlaceSet) (c : Cell) → Says (exactly s c) s c

@@ -1,3 +1,4 @@
 pub mod Sets
 pub mod Relations
 pub mod Banks
+pub mod Words

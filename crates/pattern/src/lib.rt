@@ -1,13 +1,14 @@
 // What patterns and banks of stitch places are, whatever they are made of.
 #![tactic(auto)]
 
-mod boxes;
+mod area;
 mod relation;
 
 ghost use Rattle.std.specs.Prelude.{◌≡◌, List, length};
 ghost use Rattle.pattern.specs.Banks.{Meaning, Facts};
 ghost use Rattle.pattern.specs.Sets.{PlaceSet, leaf_set};
 
+pub use area::Area;
 use grid::{Cell, Place};
 pub use relation::Relation;
 
@@ -26,7 +27,7 @@ pub trait Pattern {
 }
 
 // A pattern that can also tell where its leaves lie. Its answers are read off its meaning, so equal questions get equal
-// answers, and each of the first two says that the meaning's sets are the pattern's.
+// answers, and the meaning's sets are the pattern's.
 pub trait Bank: Pattern {
     // The leaves' sets once more, and with each leaf its bound and its relation to any cell.
     ghost meaning: { Self → Meaning };
@@ -41,11 +42,8 @@ pub trait Bank: Pattern {
         ensures is { result ≡ (meaning self.now).relation leaf cell }
         ensures own { (meaning self.now).sets ≡ Self.Pattern.sets self.now };
 
-    // Asks nothing and does nothing: the body is empty. Code that holds two banks and asks one of them learns here that
-    // the other's meaning, too, is about its pattern's sets.
-    fn own_sets(&self)
-        ensures { (meaning self.now).sets ≡ Self.Pattern.sets self.now };
+    // What every bank owes: its meaning is about the pattern's own sets, and is true.
+    ghost own: { (b : Self) → (meaning b).sets ≡ Self.Pattern.sets b };
 
-    // What every bank owes.
     ghost facts: { (b : Self) → Facts (meaning b) };
 }

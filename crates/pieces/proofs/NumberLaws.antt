@@ -1,30 +1,21 @@
 -- A comparison with what is not a number fails. Assumes nothing.
-use Rattle.std.proofs.Common.{◌≡◌, Bool, true, false, sym, refl, ap, ◌∙◌}
-use lib.Ieee.{Float, nan, inf, fin, le, lt, eq}
-use Rattle.std.proofs.lemmas.Bool.{false≢true}
+use Rattle.std.proofs.Common.{◌≡◌, Bool, true, sym, ◌∙◌, subst}
+use Rattle.std.specs.Float.{Float, nan, NotNan, ◌≤ᶠ◌}
+use Rattle.std.specs.Float.Ieee.{is_nan, le, lt}
+use Rattle.std.proofs.lemmas.Float.{T_from_true, le_left, le_right, le_of_lt}
 use Rattle.pieces.specs.declared.edge.Edge.{Edge}
 use Rattle.pieces.specs.declared.edge.Edge.TheVariants.{Open, Closed, Free}
 use Rattle.pieces.specs.Pieces.{from_low, to_high, Numbers}
 
-lt_to_nan : (x : Float) → lt x nan ≡ false
-unfolding lt
-lt_to_nan nan = refl
-lt_to_nan (inf s) = refl
-lt_to_nan (fin s m e) = refl
+numbers : (x y : Float) → x ≤ᶠ y → (x ≡ nan → ⊥) × (y ≡ nan → ⊥)
+unfolding is_nan
+numbers x y h = (λ e. subst NotNan e (le_left x y h), λ e. subst NotNan e (le_right x y h))
 
-le_to_nan : (x : Float) → le x nan ≡ false
-unfolding le lt eq
-le_to_nan nan = refl
-le_to_nan (inf s) = refl
-le_to_nan (fin s m e) = refl
+lt_numbers : (x y : Float) → lt x y ≡ true → (x ≡ nan → ⊥) × (y ≡ nan → ⊥)
+lt_numbers x y t = numbers x y (le_of_lt x y (T_from_true (lt x y) t))
 
-pub lt_numbers : (x y : Float) → lt x y ≡ true → (x ≡ nan → ⊥) × (y ≡ nan → ⊥)
-unfolding lt
-lt_numbers x y t = (λ e. false≢true (sym (ap (λ z. lt z y) e) ∙ t), λ e. false≢true (sym (lt_to_nan x) ∙ sym (ap (lt x) e) ∙ t))
-
-pub le_numbers : (x y : Float) → le x y ≡ true → (x ≡ nan → ⊥) × (y ≡ nan → ⊥)
-unfolding le lt eq
-le_numbers x y t = (λ e. false≢true (sym (ap (λ z. le z y) e) ∙ t), λ e. false≢true (sym (le_to_nan x) ∙ sym (ap (le x) e) ∙ t))
+le_numbers : (x y : Float) → le x y ≡ true → (x ≡ nan → ⊥) × (y ≡ nan → ⊥)
+le_numbers x y t = numbers x y (T_from_true (le x y) t)
 
 pub low_numbers : (edge : Edge) (m : Float) (r : Bool) → r ≡ from_low edge m → r ≡ true → Numbers edge m
 low_numbers (Open e) m r is t = lt_numbers e m (sym is ∙ t)

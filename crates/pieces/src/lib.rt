@@ -12,7 +12,7 @@ use pattern::Pattern;
 
 // A piece on one track. A needle stands at needle times pitch from the left and a course at course times height from the
 // bottom, in millimetres. The piece has the places between its four edges.
-#[derive(Clone, Copy)]
+#[derive(Clone, Copy, PartialEq, Debug)]
 pub struct Piece {
     pub track: u16,
     pub pitch: f64,
@@ -30,57 +30,32 @@ fn measure(number: u16, step: f64) -> f64
     number as f64 * step
 }
 
-fn compares_low(edge: Edge, measure: f64) -> bool
-    ensures { result ≡ from_low edge measure }
-{
-    match edge {
-        Edge::Open(at) => measure > at,
-        Edge::Closed(at) => measure >= at,
-        Edge::Free => true,
-    }
-}
-
-fn compares_high(edge: Edge, measure: f64) -> bool
-    ensures { result ≡ to_high edge measure }
-{
-    match edge {
-        Edge::Open(at) => measure < at,
-        Edge::Closed(at) => measure <= at,
-        Edge::Free => true,
-    }
-}
-
-// The same, which is passed only between numbers.
-fn passes_low(edge: Edge, measure: f64) -> bool
-    ensures is { result ≡ from_low edge measure }
-    ensures numbers { result ≡ true → Numbers edge measure }
-{
-    compares_low(edge, measure)
-}
-
-// The same, which is passed only between numbers.
-fn passes_high(edge: Edge, measure: f64) -> bool
-    ensures is { result ≡ to_high edge measure }
-    ensures numbers { result ≡ true → Numbers edge measure }
-{
-    compares_high(edge, measure)
-}
-
+// Two comparisons side by side, turned round: a function of both would have to say which of its numbers stands first.
 impl Edge {
     // Whether a measure passes the edge as a left or a bottom one. A comparison with what is not a number fails.
+    #[tactic(auto, using(crate::proofs::NumberLaws::low_numbers))]
     pub fn is_passed_from_below(&self, measure: f64) -> bool
         ensures is { result ≡ from_low self.now measure }
         ensures numbers { result ≡ true → Numbers self.now measure }
     {
-        passes_low(*self, measure)
+        match *self {
+            Edge::Open(at) => measure > at,
+            Edge::Closed(at) => measure >= at,
+            Edge::Free => true,
+        }
     }
 
     // Whether a measure passes the edge as a right or a top one. A comparison with what is not a number fails.
+    #[tactic(auto, using(crate::proofs::NumberLaws::high_numbers))]
     pub fn is_passed_from_above(&self, measure: f64) -> bool
         ensures is { result ≡ to_high self.now measure }
         ensures numbers { result ≡ true → Numbers self.now measure }
     {
-        passes_high(*self, measure)
+        match *self {
+            Edge::Open(at) => measure < at,
+            Edge::Closed(at) => measure <= at,
+            Edge::Free => true,
+        }
     }
 }
 
@@ -99,6 +74,7 @@ impl Piece {
     }
 }
 
+// A piece tells no bound and no relation, by the rules of the project, and so is no area: it says itself that it is one leaf.
 impl Pattern for Piece {
     ghost sets = { leaves_of };
 

@@ -1,5 +1,5 @@
 -- A one-by-one rib.
-use Rattle.std.specs.Prelude.{◌%◌, cond, List, [], ◌∷◌, Some, ◌==◌, nat_lt}
+use Rattle.std.specs.Prelude.{◌%◌, cond, Some, ◌==◌, nat_lt}
 use Rattle.grid.specs.declared.axis.Axis.TheVariants.{Needle}
 use Rattle.grid.specs.declared.cell.Cell.{Cell}
 use Rattle.grid.specs.Places.{at}
@@ -17,10 +17,6 @@ rib_set p = at p Needle % 2 == 0
 -- A cell of several needles is Mixed; one of a single needle is Inside if that is even, else Outside.
 abbrev pub rib_relation : Cell → Relation
 rib_relation c = cond (nat_lt (lo c Needle) (hi c Needle)) Mixed (cond (lo c Needle % 2 == 0) Inside Outside)
-
--- The one leaf.
-abbrev pub leaves_of : Rib → List PlaceSet
-leaves_of r = rib_set ∷ []
 
 -- Its bound is the grid.
 abbrev pub meaning_of : Rib → Meaning

@@ -1,41 +1,37 @@
 // A bank of one's own, as an example: a one-by-one rib, the stitches of every other needle.
 #![tactic(auto)]
 
-ghost use Rattle.rib.specs.Rib.{leaves_of, meaning_of};
+ghost use Rattle.std.specs.Prelude.{Some};
+ghost use Rattle.grid.specs.Cells.{grid_cell};
+ghost use Rattle.rib.specs.Rib.{rib_set, rib_relation};
 ghost use Rattle.rib.specs.RibLaws.{rib_facts};
 
 use grid::{Cell, Place};
-use pattern::{Bank, Pattern, Relation};
+use pattern::{Area, Relation};
 
 // Needles 0, 2, 4 and so on, in all courses and on all tracks.
-#[derive(Clone, Copy)]
+#[derive(Clone, Copy, PartialEq, Eq, Debug)]
 pub struct Rib {}
 
-impl Pattern for Rib {
-    ghost sets = { leaves_of };
+impl Area for Rib {
+    ghost set = { λ r. rib_set };
 
-    fn leaves(&self) -> u16 {
-        1
-    }
+    ghost limits = { λ r. Some grid_cell };
 
-    fn holds(&self, leaf: u16, place: Place) -> bool {
-        leaf == 0 && place.needle() % 2 == 0
-    }
-}
-
-impl Bank for Rib {
-    ghost meaning = { meaning_of };
+    ghost lies_to = { λ r. rib_relation };
 
     ghost facts = { rib_facts };
 
-    fn bound(&self, leaf: u16) -> Option<Cell> {
-        if leaf == 0 { Some(Cell::grid()) } else { None }
+    fn has(&self, place: Place) -> bool {
+        place.needle() % 2 == 0
     }
 
-    fn relation(&self, leaf: u16, cell: Cell) -> Relation {
-        if leaf != 0 {
-            Relation::Outside
-        } else if cell.low().needle() < cell.high().needle() {
+    fn limits(&self) -> Option<Cell> {
+        Some(Cell::grid())
+    }
+
+    fn lies_to(&self, cell: Cell) -> Relation {
+        if cell.low().needle() < cell.high().needle() {
             Relation::Mixed
         } else if cell.low().needle() % 2 == 0 {
             Relation::Inside
@@ -43,6 +39,4 @@ impl Bank for Rib {
             Relation::Outside
         }
     }
-
-    fn own_sets(&self) {}
 }

@@ -1,5 +1,5 @@
 -- The relation of a slope is exact. Assumes nothing.
-use Rattle.std.proofs.Common.{◌≡◌, ℕ, Bool, true, false, cond, pos, ◌*ℤ◌, ◌≤ℤ◌, refl, ◌∙◌, arith}
+use Rattle.std.proofs.Common.{◌≡◌, ℕ, Bool, true, false, cond, pos, ◌*ℤ◌, ◌≤ℤ◌, refl, sym, subst, ◌∙◌, arith}
 use Rattle.std.proofs.lemmas.Int.{ints}
 use Rattle.std.proofs.lemmas.Bool.{both_ways}
 use Rattle.grid.specs.declared.axis.Axis.{Axis}
@@ -10,6 +10,7 @@ use Rattle.grid.specs.Axes.{top, Below}
 use Rattle.grid.specs.Places.{at, place_at}
 use Rattle.grid.specs.Cells.{lo, hi, In}
 use Rattle.grid.proofs.PlaceLaws.{along_is}
+use Rattle.pattern.specs.declared.relation.Relation.{Relation}
 use Rattle.pattern.specs.declared.relation.Relation.TheVariants.{Inside, Outside, Mixed}
 use Rattle.pattern.specs.Relations.{Exact}
 use Rattle.pattern.proofs.ExactLaws.{inside_exact, outside_exact, mixed_exact}
@@ -57,3 +58,6 @@ module _ (s : Slope) (c : Cell) where
 
   pub slope_exact : Exact (slope_relation s c) (slope_set s) c
   slope_exact = by_corners (under s (corner s (lo c) (hi c))) (under s (corner s (hi c) (lo c))) refl refl
+
+pub slope_told : (s : Slope) (c : Cell) (r : Relation) → r ≡ slope_relation s c → Exact r (slope_set s) c
+slope_told s c r e = subst (λ r. Exact r (slope_set s) c) (sym e) (slope_exact s c)

@@ -1,7 +1,6 @@
 // Blocks and slopes, and shapes that are either.
 #![tactic(auto)]
 
-mod bare;
 mod block;
 mod shape;
 mod slope;

@@ -8,7 +8,7 @@ use crate::slope::Slope;
 use grid::{Cell, Place};
 use pattern::Relation;
 
-#[derive(Clone, Copy)]
+#[derive(Clone, Copy, PartialEq, Eq, Debug)]
 pub enum Shape {
     Block(Block),
     Slope(Slope),

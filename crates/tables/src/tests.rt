@@ -22,20 +22,23 @@ fn bare(needle: u16, course: u16, track: u16) -> BarePlace {
     }
 }
 
-fn low_of(ends: Ends) -> BarePlace {
-    bare(ends[0], ends[1], ends[2])
-}
-
-fn high_of(ends: Ends) -> BarePlace {
-    bare(ends[3], ends[4], ends[5])
+// The low and the high place of a row.
+fn corners(ends: Ends) -> (BarePlace, BarePlace) {
+    let [needle, course, track, last_needle, last_course, last_track] = ends;
+    (
+        bare(needle, course, track),
+        bare(last_needle, last_course, last_track),
+    )
 }
 
 fn place(numbers: [u16; 3]) -> Result<Place, Refusal> {
-    Place::new(bare(numbers[0], numbers[1], numbers[2]))
+    let [needle, course, track] = numbers;
+    Place::new(bare(needle, course, track))
 }
 
 fn cell(ends: Ends) -> Result<Cell, Refusal> {
-    Cell::workspace(low_of(ends), high_of(ends))
+    let (low, high) = corners(ends);
+    Cell::workspace(low, high)
 }
 
 fn ends(cell: Cell) -> Ends {
@@ -52,8 +55,5 @@ fn ends(cell: Cell) -> Ends {
 }
 
 fn possible(cell: Option<Cell>) -> Option<Ends> {
-    match cell {
-        Some(c) => Some(ends(c)),
-        None => None,
-    }
+    cell.map(ends)
 }

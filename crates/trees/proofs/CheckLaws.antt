@@ -1,7 +1,7 @@
 -- The first fault of a tree is there and nothing before it is broken, and a tree with no fault is sound. Assumes nothing.
-use Rattle.std.proofs.Common.{◌≡◌, ℕ, zero, suc, ◌+◌, ◌-◌, ◌<◌, ◌≤◌, true, false, cond, ◌&&◌, ◌||◌, eqb, ltb, List, length, drop, Some, None, Option, sym, refl, subst, inl, inr, ⊎_elim, arith}
+use Rattle.std.proofs.Common.{◌≡◌, ℕ, zero, suc, ◌+◌, ◌-◌, ◌<◌, ◌≤◌, true, false, cond, ◌&&◌, ◌||◌, eqb, ltb, List, length, drop, Some, None, Option, Result, sym, refl, subst, inl, inr, ⊎_elim, arith}
 use Rattle.std.proofs.lemmas.List.{at_drop_all, get_or-map, length-map}
-use Rattle.std.proofs.lemmas.Bool.{cases_lt, cases_eq, cond_both, and_from, and_parts, and_cases, or_cases, or_parts, eqb-true, eqb-false, ltb-true, ltb-false, lt-ltb}
+use Rattle.std.proofs.lemmas.Bool.{cases_eq, cond_both, and_from, and_parts, and_cases, or_cases, or_parts, eqb-true, eqb-false, ltb-true, ltb-false, lt-ltb}
 use Rattle.trees.specs.declared.bare.BareNode.{BareNode}
 use Rattle.trees.specs.declared.node.Node.TheVariants.{Leaf, Inner}
 use Rattle.trees.specs.Nodes.{operation_of, node_from, nodes_from, children_below, times_named, Tree}
@@ -22,10 +22,10 @@ record Clear (leaves : ℕ) (bare : List BareNode) (before : ℕ) : Type 0 where
   parents : (i : ℕ) → suc i < length bare → 1 + length bare + i < before → times_named (nodes_from bare) i ≡ 1
 
 positive : (n : ℕ) → eqb n 0 ≡ false → 0 < n
-positive n other = ⊎_elim (λ z. absurd (eqb-false n 0 other z)) (λ z. omega arith) (cases_eq n 0)
+positive n other = omega (arith, eqb-false n 0 other)
 
 not_before : (before t : ℕ) → (t < before → ⊥) → before ≤ t
-not_before before t late = ⊎_elim (λ early. absurd (late early)) (λ l. l) (cases_lt t before)
+not_before before t late = omega (arith, late)
 
 -- What is broken has its turn only then.
 clear_turn : {leaves : ℕ} {bare : List BareNode} {number node : ℕ} (before : ℕ) → Clear leaves bare before → Broken leaves bare number node → before ≤ turn (length bare) (fault number node)
@@ -184,5 +184,5 @@ module _ (leaves : ℕ) (bare : List BareNode) where
   pub check_law : {A : Type 0} (a : A) → CheckLaw leaves bare (answered (tree_fault leaves bare) a)
   check_law a = searched_law a (tree_fault leaves bare) tree_searched
 
-  pub told_law : {A : Type 0} (a : A) (o : Option Told) → o ≡ tree_fault leaves bare → CheckLaw leaves bare (answered o a)
-  told_law a o is = subst (λ f. CheckLaw leaves bare (answered f a)) (sym is) (check_law a)
+  pub answer_law : {A : Type 0} (a : A) (r : Result A Told) → r ≡ answered (tree_fault leaves bare) a → CheckLaw leaves bare r
+  answer_law a r is = subst (CheckLaw leaves bare) (sym is) (check_law a)

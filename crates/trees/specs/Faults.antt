@@ -1,5 +1,5 @@
 -- The numbers by which faults of trees are told.
-use Rattle.std.specs.Prelude.{ℕ, Some, None, Ok, Err, Option, Result}
+use Rattle.std.specs.Prelude.{ℕ, Ok, Err, Result}
 use Rattle.grid.specs.Refusals
 use Rattle.trees.specs.declared.fault.Fault.{Fault}
 use Rattle.trees.specs.declared.fault.Fault.TheVariants.{Numbers, NodeCount, UnknownOperation, ChildNotBelow, LeafMissing, ParentNotOne}
@@ -30,11 +30,6 @@ pub record Told : Type 0 where
 -- What is told of a fault.
 abbrev pub told_of : Fault → Told
 told_of f = record { number = number_of f; node = node_of f }
-
--- What is told of a possible fault.
-abbrev pub told_maybe : Option Fault → Option Told
-told_maybe (Some f) = Some (told_of f)
-told_maybe None = None
 
 -- An answer with what is told of its fault in the place of the fault.
 abbrev pub told : {A : Type 0} → Result A Fault → Result A Told

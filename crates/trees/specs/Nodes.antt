@@ -1,9 +1,10 @@
 -- The nodes of a tree: what bare numbers stand for, and the children that a node names.
-use Rattle.std.specs.Prelude.{◌≡◌, ℕ, suc, ◌+◌, ◌<◌, ◌≤◌, Bool, true, cond, ◌&&◌, List, [], ◌∷◌, map, length, ◌==◌, nat_lt, slice_index_or}
+use Rattle.std.specs.Prelude.{◌≡◌, ℕ, suc, ◌+◌, ◌<◌, ◌≤◌, Bool, true, cond, ◌&&◌, List, [], ◌∷◌, map, length, ◌==◌, nat_lt, slice_index_or, Ok, Err, Result}
 use Rattle.trees.specs.declared.bare.BareNode.{BareNode}
 use Rattle.trees.specs.declared.node.Operation.{Operation}
 use Rattle.trees.specs.declared.node.Operation.TheVariants.{Union, Both, Less, Differ}
 use Rattle.trees.specs.declared.node.Node.{Node}
+use Rattle.trees.specs.declared.node.UnknownOperation.{UnknownOperation}
 use Rattle.trees.specs.declared.node.Node.TheVariants.{Leaf, Inner}
 
 -- The operation by its number, which is 1 to 4.
@@ -13,6 +14,10 @@ operation_of n = cond (n == 1) Union (cond (n == 2) Both (cond (n == 3) Less Dif
 -- The node that bare numbers stand for, where the operation is 0 to 4.
 abbrev pub node_from : BareNode → Node
 node_from b = cond (b.operation == 0) (Leaf b.left) (Inner (operation_of b.operation) b.left b.right)
+
+-- What a conversion of bare numbers gives: the node that they stand for, or else the operation that is none of 0 to 4.
+abbrev pub Converts : BareNode → Result Node UnknownOperation → Type 0
+Converts b r = r ≡ cond (nat_lt 4 b.operation) (Err (record { 0 = b.operation })) (Ok (node_from b))
 
 -- The nodes that a tree has, in order.
 abbrev pub nodes_from : List BareNode → List Node

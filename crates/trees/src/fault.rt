@@ -4,8 +4,10 @@ ghost use Rattle.trees.specs.declared.fault.Fault.TheVariants.{Numbers};
 ghost use Rattle.trees.specs.Faults.{number_of, node_of};
 
 use grid::Refusal;
+use std::error::Error;
+use std::fmt;
 
-#[derive(Clone, Copy, Debug)]
+#[derive(Clone, Copy, PartialEq, Eq, Debug)]
 pub enum Fault {
     // The numbers of a place or of a workspace are refused.
     Numbers(Refusal),
@@ -22,7 +24,7 @@ pub enum Fault {
 }
 
 impl Fault {
-    // The number by which the fault is told.
+    // The number by which the fault is told. It is the product's own output, 3 to 9, so a number and no enum.
     pub fn number(&self) -> u16
         ensures { result ≡ number_of self.now }
     {
@@ -36,17 +38,16 @@ impl Fault {
         }
     }
 
-    // The node that is at fault, or 0 where none is.
+    // The node that is at fault. The product's output has 0 where none is, so this is a number and no Option.
     pub fn node(&self) -> u16
         ensures { result ≡ node_of self.now }
     {
         match self {
-            Fault::Numbers(_) => 0,
-            Fault::NodeCount => 0,
-            Fault::UnknownOperation(node) => *node,
-            Fault::ChildNotBelow(node) => *node,
-            Fault::LeafMissing(node) => *node,
-            Fault::ParentNotOne(node) => *node,
+            Fault::Numbers(_) | Fault::NodeCount => 0,
+            Fault::UnknownOperation(node)
+            | Fault::ChildNotBelow(node)
+            | Fault::LeafMissing(node)
+            | Fault::ParentNotOne(node) => *node,
         }
     }
 }
@@ -59,3 +60,19 @@ impl From<Refusal> for Fault {
         Fault::Numbers(refusal)
     }
 }
+
+impl fmt::Display for Fault {
+    fn fmt<W: fmt::Write>(&self, f: &mut fmt::Formatter<W>) -> fmt::Result {
+        write!(f, "refused with {}", self.number())?;
+        match self {
+            Fault::Numbers(numbers) => write!(f, ": {numbers}"),
+            Fault::NodeCount => write!(f, ": a tree has 1 to 127 nodes"),
+            Fault::UnknownOperation(node) => write!(f, ": node {node} has an unknown operation"),
+            Fault::ChildNotBelow(node) => write!(f, ": node {node} has a child not below it"),
+            Fault::LeafMissing(node) => write!(f, ": node {node} names a leaf that is missing"),
+            Fault::ParentNotOne(node) => write!(f, ": node {node} is not named just once"),
+        }
+    }
+}
+
+impl Error for Fault {}

@@ -10,5 +10,5 @@ mod test;
 pub use bare::BareNode;
 pub use checks::check;
 pub use fault::Fault;
-pub use node::{Node, Operation};
+pub use node::{MOST_NODES, Node, Operation, UnknownOperation};
 pub use test::place_test;

@@ -1,10 +1,10 @@
-// The test of one place. The public call stands below the functions that do its work.
-ghost use Rattle.std.specs.Prelude.{◌≡◌, ◌<◌, length};
+// The test of one place.
+ghost use Rattle.std.specs.Prelude.{◌≡◌, ◌<◌, Bool, true, false, length};
 ghost use Rattle.grid.specs.Refusals.{place_of};
 ghost use Rattle.trees.specs.Nodes.{nodes_from, Tree};
 ghost use Rattle.trees.specs.Sets.{joins, asks, node_set};
 ghost use Rattle.trees.specs.Faults.{told};
-ghost use Rattle.trees.specs.Checks.{tested_at, place_tested};
+ghost use Rattle.trees.specs.Checks.{place_tested};
 
 use crate::bare::BareNode;
 use crate::checks::check;
@@ -13,54 +13,51 @@ use crate::node::{Node, Operation};
 use grid::{BarePlace, Place};
 use pattern::Pattern;
 
-// Whether a place is in the set that an operation makes of two others, from whether it is in these.
-fn joined(operation: Operation, left: bool, right: bool) -> bool
-    ensures { result ≡ joins operation left right }
-{
-    match operation {
-        Operation::Union => left || right,
-        Operation::Both => left && right,
-        Operation::Less => left && !right,
-        Operation::Differ => left != right,
-    }
-}
-
-// Whether that depends on the right set.
-fn asks_right(operation: Operation, left: bool) -> bool
-    ensures { result ≡ asks operation left }
-{
-    match operation {
-        Operation::Union => !left,
-        Operation::Both | Operation::Less => left,
-        Operation::Differ => true,
-    }
-}
-
-// Whether the set of a node has a place.
-fn is_in<P: Pattern>(pattern: &P, nodes: &[BareNode], number: u16, place: Place) -> bool
-    requires { (number < length nodes.now) × (Tree (nodes_from nodes.now)) }
-    ensures { result ≡ node_set (P.Pattern.sets pattern.now) (nodes_from nodes.now) number place }
-{
-    match nodes[number as usize].node() {
-        Node::Leaf(leaf) => pattern.holds(leaf, place),
-        Node::Inner(operation, left, right) => {
-            let in_left = is_in(pattern, nodes, left, place);
-            if asks_right(operation, in_left) {
-                joined(operation, in_left, is_in(pattern, nodes, right, place))
-            } else {
-                joined(operation, in_left, false)
-            }
+impl Operation {
+    // Whether a place is in the set that the operation makes of two others, from whether it is in the left one; the right
+    // one is asked only where that matters. An Fn, though it is called once at most: what an FnOnce answers is not known to
+    // the check where the call leads back to the function that made it.
+    fn joins<F: Fn() -> bool>(self, left: bool, right: F) -> bool
+        requires { F.pre right }
+        ensures unasked { asks self left ≡ false → result ≡ joins self left false }
+        ensures asked { asks self left ≡ true → (b : Bool) × F.post right b × (result ≡ joins self left b) }
+    {
+        match self {
+            Operation::Union => left || right(),
+            Operation::Both => left && right(),
+            Operation::Less => left && !right(),
+            Operation::Differ => left != right(),
         }
     }
 }
 
-// Tests a place of the grid by a tree.
-fn tested<P: Pattern>(pattern: &P, nodes: &[BareNode], place: Place) -> Result<bool, Fault>
-    ensures { told result ≡ tested_at (P.Pattern.sets pattern.now) nodes.now place }
-{
-    check(pattern, nodes)?;
-    let root = nodes.len() as u16 - 1;
-    Ok(is_in(pattern, nodes, root, place))
+// A place that is tested by a checked tree over a pattern.
+#[derive(Drop)]
+struct PlaceTest<'a, P> {
+    pattern: &'a P,
+    nodes: &'a [BareNode],
+    place: Place,
+    ghost tree: { Tree (nodes_from nodes.now) },
+}
+
+impl<P: Pattern> PlaceTest<'_, P> {
+    // Whether the set of a node has the place.
+    #[cycle(is_in)]
+    fn is_in(&self, number: u16) -> bool
+        requires { number < length self.now.nodes.now }
+        ensures { result ≡ node_set (P.Pattern.sets self.now.pattern.now) (nodes_from self.now.nodes.now) number self.now.place }
+    {
+        match self.nodes[number as usize].node() {
+            Node::Leaf(leaf) => self.pattern.holds(leaf, self.place),
+            Node::Inner(operation, left, right) => {
+                let in_right = ||
+                    requires { right < length self.now.nodes.now }
+                    ensures { result ≡ node_set (P.Pattern.sets self.entry.now.pattern.now) (nodes_from self.entry.now.nodes.now) right self.entry.now.place }
+                { self.is_in(right) };
+                operation.joins(self.is_in(left), in_right)
+            }
+        }
+    }
 }
 
 // Whether a place lies in the set of a tree; refused if the place is off the grid, or else with the first fault of the
@@ -73,5 +70,11 @@ pub fn place_test<P: Pattern>(
     ensures { told result ≡ place_tested (P.Pattern.sets pattern.now) nodes.now (place_of place) }
 {
     let place = Place::new(place)?;
-    tested(pattern, nodes, place)
+    check(pattern, nodes)?;
+    let test = PlaceTest {
+        pattern,
+        nodes,
+        place,
+    };
+    Ok(test.is_in(nodes.len() as u16 - 1))
 }

@@ -151,10 +151,11 @@ fn check_leaves<B: Bank>(rt: &impl Abort, bank: &B) -> Result<(), Fail> {
 fn check_places<P: Pattern>(rt: &impl Abort, pattern: &P) -> Result<(), Fail> {
     for (numbers, holds) in HELD {
         let at = place(numbers)?;
-        assert_eq!(rt; pattern.holds(0, at), holds[0]);
-        assert_eq!(rt; pattern.holds(1, at), holds[1]);
-        assert_eq!(rt; pattern.holds(2, at), holds[2]);
-        assert_eq!(rt; pattern.holds(3, at), holds[3]);
+        let [first, second, third, fourth] = holds;
+        assert_eq!(rt; pattern.holds(0, at), first);
+        assert_eq!(rt; pattern.holds(1, at), second);
+        assert_eq!(rt; pattern.holds(2, at), third);
+        assert_eq!(rt; pattern.holds(3, at), fourth);
         assert_eq!(rt; pattern.holds(4, at), false);
         assert_eq!(rt; pattern.holds(65535, at), false);
     }

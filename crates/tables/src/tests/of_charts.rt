@@ -35,12 +35,9 @@ const FRAMES: [([u16; 3], [u16; 3], bool); 21] = [
 fn charts_hold_their_stitches(rt: HostRuntime) -> Result<(), Fail> {
     let bytes = [1u8, 1, 2, 9];
     for (frame, at, holds) in FRAMES {
-        let chart = Chart::new(frame[0], frame[1], frame[2], &bytes);
-        let bare = Frame {
-            left: frame[0],
-            first: frame[1],
-            width: frame[2],
-        };
+        let [left, first, width] = frame;
+        let chart = Chart::new(left, first, width, &bytes);
+        let bare = Frame { left, first, width };
         assert_eq!(rt; bare.stitches(&bytes, place(at)?), holds);
         assert_eq!(rt; chart.holds(0, place(at)?), holds);
         assert_eq!(rt; chart.holds(1, place(at)?), false);
@@ -50,8 +47,15 @@ fn charts_hold_their_stitches(rt: HostRuntime) -> Result<(), Fail> {
     Ok(())
 }
 
-// A byte, and the track that has a stitch there; 8 for none.
-const BYTES: [(u8, u16); 6] = [(0, 0), (3, 3), (7, 7), (8, 8), (9, 8), (255, 8)];
+// A byte, and the track that has a stitch there, if any.
+const BYTES: [(u8, Option<u16>); 6] = [
+    (0, Some(0)),
+    (3, Some(3)),
+    (7, Some(7)),
+    (8, None),
+    (9, None),
+    (255, None),
+];
 
 #[test]
 fn bytes_name_tracks(rt: HostRuntime) -> Result<(), Fail> {
@@ -59,7 +63,7 @@ fn bytes_name_tracks(rt: HostRuntime) -> Result<(), Fail> {
         let bytes = [byte];
         let chart = Chart::new(0, 0, 1, &bytes);
         for track in 0..8u16 {
-            assert_eq!(rt; chart.holds(0, place([0, 0, track])?), track == named);
+            assert_eq!(rt; chart.holds(0, place([0, 0, track])?), Some(track) == named);
         }
     }
     let none = Chart::new(0, 0, 1, &[]);
@@ -101,7 +105,8 @@ const BOUNDS: [([u16; 3], usize, Option<Ends>); 18] = [
 fn bounds_are_the_frames_of_the_rows(rt: HostRuntime) {
     let bytes = [1u8; 7];
     for (frame, count, bound) in BOUNDS {
-        let chart = Chart::new(frame[0], frame[1], frame[2], first(&bytes, count));
+        let [left, first, width] = frame;
+        let chart = Chart::new(left, first, width, up_to(&bytes, count));
         assert_eq!(rt; possible(chart.bound(0)), bound);
         assert_eq!(rt; possible(chart.bound(1)), None);
         assert_eq!(rt; possible(chart.bound(65535)), None);
@@ -183,10 +188,6 @@ fn relations_are_exact_up_to_1024_places(rt: HostRuntime) -> Result<(), Fail> {
 }
 
 // The first bytes, as many as that.
-fn first(bytes: &[u8], count: usize) -> &[u8] {
-    if count < bytes.len() {
-        &bytes[..count]
-    } else {
-        bytes
-    }
+fn up_to(bytes: &[u8], count: usize) -> &[u8] {
+    &bytes[..count.min(bytes.len())]
 }

@@ -1,19 +1,19 @@
 // The edges of every rule of the grid, as tables. A cell is written as its six ends: low needle, course and track, then
 // high needle, course and track. The expected values are worked out by hand from the rules.
-use super::{Ends, cell, ends, high_of, low_of, place, possible};
-use grid::{Axis, Cell};
+use super::{Ends, cell, corners, ends, place, possible};
+use grid::{Axis, Cell, Coordinates};
 use std::test::Fail;
 
-// Numbers and the refusal they get; 0 for none.
-const PLACES: [([u16; 3], u16); 8] = [
-    ([0, 0, 0], 0),
-    ([4095, 65535, 7], 0),
-    ([4096, 0, 0], 3),
-    ([65535, 0, 0], 3),
-    ([0, 65535, 0], 0),
-    ([0, 0, 8], 3),
-    ([0, 0, 65535], 3),
-    ([4096, 65535, 8], 3),
+// Numbers and the number of the refusal they get, if any.
+const PLACES: [([u16; 3], Option<u16>); 8] = [
+    ([0, 0, 0], None),
+    ([4095, 65535, 7], None),
+    ([4096, 0, 0], Some(3)),
+    ([65535, 0, 0], Some(3)),
+    ([0, 65535, 0], None),
+    ([0, 0, 8], Some(3)),
+    ([0, 0, 65535], Some(3)),
+    ([4096, 65535, 8], Some(3)),
 ];
 
 #[test]
@@ -21,7 +21,7 @@ fn places_end_with_the_grid(rt: HostRuntime) {
     for (numbers, refusal) in PLACES {
         match place(numbers) {
             Ok(place) => {
-                assert_eq!(rt; refusal, 0);
+                assert_eq!(rt; refusal, None);
                 assert_eq!(rt; [place.needle(), place.course(), place.track()], numbers);
                 assert_eq!(rt;
                     [
@@ -32,25 +32,25 @@ fn places_end_with_the_grid(rt: HostRuntime) {
                     numbers
                 );
             }
-            Err(e) => assert_eq!(rt; e.number(), refusal),
+            Err(e) => assert_eq!(rt; Some(e.number()), refusal),
         }
     }
 }
 
-// Ends and the refusal they get; 0 for none. Off the grid goes before upside down.
-const WORKSPACES: [(Ends, u16); 12] = [
-    ([0, 0, 0, 4095, 65535, 7], 0),
-    ([9, 9, 3, 9, 9, 3], 0),
-    ([0, 0, 0, 4096, 0, 0], 3),
-    ([0, 0, 0, 0, 0, 8], 3),
-    ([4096, 0, 0, 4096, 0, 0], 3),
-    ([5, 0, 0, 4, 0, 0], 4),
-    ([0, 1, 0, 0, 0, 0], 4),
-    ([0, 0, 7, 0, 0, 6], 4),
-    ([4096, 0, 0, 0, 0, 0], 3),
-    ([1, 0, 0, 0, 0, 8], 3),
-    ([0, 9, 9, 0, 0, 0], 3),
-    ([1, 1, 1, 0, 0, 0], 4),
+// Ends and the number of the refusal they get, if any. Off the grid goes before upside down.
+const WORKSPACES: [(Ends, Option<u16>); 12] = [
+    ([0, 0, 0, 4095, 65535, 7], None),
+    ([9, 9, 3, 9, 9, 3], None),
+    ([0, 0, 0, 4096, 0, 0], Some(3)),
+    ([0, 0, 0, 0, 0, 8], Some(3)),
+    ([4096, 0, 0, 4096, 0, 0], Some(3)),
+    ([5, 0, 0, 4, 0, 0], Some(4)),
+    ([0, 1, 0, 0, 0, 0], Some(4)),
+    ([0, 0, 7, 0, 0, 6], Some(4)),
+    ([4096, 0, 0, 0, 0, 0], Some(3)),
+    ([1, 0, 0, 0, 0, 8], Some(3)),
+    ([0, 9, 9, 0, 0, 0], Some(3)),
+    ([1, 1, 1, 0, 0, 0], Some(4)),
 ];
 
 #[test]
@@ -58,10 +58,10 @@ fn workspaces_are_taken_or_refused(rt: HostRuntime) {
     for (given, refusal) in WORKSPACES {
         match cell(given) {
             Ok(c) => {
-                assert_eq!(rt; refusal, 0);
+                assert_eq!(rt; refusal, None);
                 assert_eq!(rt; ends(c), given);
             }
-            Err(e) => assert_eq!(rt; e.number(), refusal),
+            Err(e) => assert_eq!(rt; Some(e.number()), refusal),
         }
     }
 }
@@ -89,10 +89,8 @@ const BOXES: [(Ends, Option<Ends>); 10] = [
 #[test]
 fn boxes_are_cut_by_the_grid(rt: HostRuntime) {
     for (given, expected) in BOXES {
-        assert_eq!(rt;
-            possible(Cell::from_box(low_of(given), high_of(given))),
-            expected
-        );
+        let (low, high) = corners(given);
+        assert_eq!(rt; possible(Cell::from_box(low, high)), expected);
     }
     assert_eq!(rt; ends(Cell::grid()), [0, 0, 0, 4095, 65535, 7]);
 }
@@ -213,10 +211,8 @@ fn halves_come_in_pairs(rt: HostRuntime) -> Result<(), Fail> {
     for (whole, halves) in HALVES {
         let c = cell(whole)?;
         assert_eq!(rt; c.is_one_place(), halves.is_none());
-        match c.halve() {
-            Some(pair) => assert_eq!(rt; Some((ends(pair.0), ends(pair.1))), halves),
-            None => assert!(rt; halves.is_none()),
-        }
+        let told = c.halve().map(|(lower, upper)| (ends(lower), ends(upper)));
+        assert_eq!(rt; told, halves);
     }
     Ok(())
 }

@@ -119,7 +119,8 @@ const BOUNDS: [([[u16; 4]; 3], Option<Ends>); 9] = [
 #[test]
 fn bounds_are_hulls(rt: HostRuntime) {
     for (runs, bound) in BOUNDS {
-        let passes = [pass(runs[0]), pass(runs[1]), pass(runs[2])];
+        let [first, second, third] = runs;
+        let passes = [pass(first), pass(second), pass(third)];
         let list = PassList::new(&passes);
         assert_eq!(rt; possible(list.bound(0)), bound);
         assert_eq!(rt; possible(list.bound(1)), None);
@@ -168,10 +169,11 @@ fn one_pass_settles_a_cell(rt: HostRuntime) -> Result<(), Fail> {
 }
 
 fn pass(numbers: [u16; 4]) -> Pass {
+    let [course, track, from, to] = numbers;
     Pass {
-        course: numbers[0],
-        track: numbers[1],
-        from: numbers[2],
-        to: numbers[3],
+        course,
+        track,
+        from,
+        to,
     }
 }

@@ -1,6 +1,6 @@
 // The edges of every rule of shapes, as tables. A block or a cell is written as its six ends: low needle, course and
 // track, then high needle, course and track. The expected values are worked out by hand from the rules.
-use super::{Ends, GRID, cell, high_of, low_of, place, possible};
+use super::{Ends, GRID, cell, corners, place, possible};
 use grid::{BarePlace, Cell, Refusal};
 use lists::ShapeList;
 use pattern::{Bank, Pattern, Relation};
@@ -304,10 +304,11 @@ fn empty_lists_have_no_leaf(rt: HostRuntime) -> Result<(), Fail> {
 }
 
 fn check_leaf(rt: &impl Abort, shapes: &[Shape], leaf: Leaf) -> Result<(), Fail> {
+    let (number, bound, holds, relation) = leaf;
     let list = ShapeList::new(shapes);
-    assert_eq!(rt; possible(bound_in(&list, leaf.0)), leaf.1);
-    assert_eq!(rt; list.holds(leaf.0, place([4, 3, 0])?), leaf.2);
-    assert_eq!(rt; list.relation(leaf.0, cell([3, 3, 0, 4, 3, 0])?), leaf.3);
+    assert_eq!(rt; possible(bound_in(&list, number)), bound);
+    assert_eq!(rt; list.holds(number, place([4, 3, 0])?), holds);
+    assert_eq!(rt; list.relation(number, cell([3, 3, 0, 4, 3, 0])?), relation);
     Ok(())
 }
 
@@ -317,17 +318,16 @@ fn bound_in<B: Bank>(bank: &B, leaf: u16) -> Option<Cell> {
 }
 
 fn block(ends: Ends) -> Block {
-    Block {
-        low: low_of(ends),
-        high: high_of(ends),
-    }
+    let (low, high) = corners(ends);
+    Block { low, high }
 }
 
 fn slope(factors: [i16; 3], limit: i64) -> Slope {
+    let [needle, course, track] = factors;
     Slope {
-        needle: factors[0],
-        course: factors[1],
-        track: factors[2],
+        needle,
+        course,
+        track,
         limit,
     }
 }

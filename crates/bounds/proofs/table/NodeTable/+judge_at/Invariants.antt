@@ -1,4 +1,0 @@
-use Rattle.bounds.proofs.table.NodeTable.+judge_at.Given as goal
-
-abbrev pub decreases-judge_at : goal.decreases-judge_at
-decreases-judge_at g l = l.number

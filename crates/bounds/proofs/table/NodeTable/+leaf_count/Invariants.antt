@@ -1,4 +1,0 @@
-use Rattle.bounds.proofs.table.NodeTable.+leaf_count.Given as goal
-
-abbrev pub decreases-leaf_count : goal.decreases-leaf_count
-decreases-leaf_count l = l.number
