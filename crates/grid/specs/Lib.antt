@@ -4,3 +4,4 @@ pub mod Cells
 pub mod Counts
 pub mod Laws
 pub mod Refusals
+pub mod Texts

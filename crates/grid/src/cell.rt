@@ -142,6 +142,11 @@ impl Cell {
 }
 
 impl fmt::Display for Cell {
+    ghost use Rattle.std.specs.Prelude.{Some};
+    ghost use Rattle.grid.specs.Texts.{ends_of};
+
+    ghost output = { λ c. Some (ends_of c) };
+
     fn fmt<W: fmt::Write>(&self, f: &mut fmt::Formatter<W>) -> fmt::Result {
         let low = self.low;
         let high = self.high;

@@ -3,3 +3,4 @@ pub mod Values
 pub mod Sets
 pub mod Faults
 pub mod Checks
+pub mod Texts

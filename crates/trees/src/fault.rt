@@ -62,15 +62,19 @@ impl From<Refusal> for Fault {
 }
 
 impl fmt::Display for Fault {
+    ghost use Rattle.std.specs.Prelude.{Some};
+    ghost use Rattle.trees.specs.Texts.{reason_for};
+
+    ghost output = { λ f. Some (reason_for f) };
+
     fn fmt<W: fmt::Write>(&self, f: &mut fmt::Formatter<W>) -> fmt::Result {
-        write!(f, "refused with {}", self.number())?;
         match self {
-            Fault::Numbers(numbers) => write!(f, ": {numbers}"),
-            Fault::NodeCount => write!(f, ": a tree has 1 to 127 nodes"),
-            Fault::UnknownOperation(node) => write!(f, ": node {node} has an unknown operation"),
-            Fault::ChildNotBelow(node) => write!(f, ": node {node} has a child not below it"),
-            Fault::LeafMissing(node) => write!(f, ": node {node} names a leaf that is missing"),
-            Fault::ParentNotOne(node) => write!(f, ": node {node} is not named just once"),
+            Fault::Numbers(numbers) => write!(f, "{numbers}"),
+            Fault::NodeCount => write!(f, "a tree has 1 to 127 nodes"),
+            Fault::UnknownOperation(node) => write!(f, "node {node} has an unknown operation"),
+            Fault::ChildNotBelow(node) => write!(f, "node {node} has a child not below it"),
+            Fault::LeafMissing(node) => write!(f, "node {node} names a leaf that is missing"),
+            Fault::ParentNotOne(node) => write!(f, "node {node} is not named just once"),
         }
     }
 }

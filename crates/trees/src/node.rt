@@ -52,6 +52,11 @@ impl TryFrom<BareNode> for Node {
 }
 
 impl fmt::Display for UnknownOperation {
+    ghost use Rattle.std.specs.Prelude.{Some};
+    ghost use Rattle.trees.specs.Texts.{told_operation};
+
+    ghost output = { λ o. Some (told_operation o) };
+
     fn fmt<W: fmt::Write>(&self, f: &mut fmt::Formatter<W>) -> fmt::Result {
         write!(f, "{} is no operation", self.0)
     }
