@@ -15,10 +15,10 @@ use pattern::Pattern;
 
 impl Operation {
     // Whether a place is in the set that the operation makes of two others, from whether it is in the left one; the right
-    // one is asked only where that matters. An Fn, though it is called once at most: what an FnOnce answers is not known to
-    // the check where the call leads back to the function that made it.
+    // one may be asked only where that matters, since only there it is known that it can be. An Fn, though it is called once
+    // at most: what an FnOnce answers is not known to the check where the call leads back to the function that made it.
     fn joins<F: Fn() -> bool>(self, left: bool, right: F) -> bool
-        requires { F.pre right }
+        requires { asks self left ≡ true → F.pre right }
         ensures unasked { asks self left ≡ false → result ≡ joins self left false }
         ensures asked { asks self left ≡ true → (b : Bool) × F.post right b × (result ≡ joins self left b) }
     {

@@ -9,7 +9,7 @@ is_in-requires g t c κs inside =
     (omega (arith, c.decreases, below.0), (inside, omega (arith, below.0)))
 
 pub joins-requires : goal.joins-requires
-joins-requires g t c =
+joins-requires g t c asked =
     let test = c.args.self.now in
     let below = bare_below test.nodes.now test.tree c.args.number c.requires _ _ _ c.in-Inner.ensures in
     (omega (arith, c.decreases, below.1), ((λ a m. m), omega (arith, below.1)))
