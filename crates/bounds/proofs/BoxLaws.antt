@@ -18,7 +18,7 @@ decides_box (Some c) p = decides_inside p c
 decides_box None p = (λ t. absurd (false≢true t), λ h. absurd h)
 
 -- What two possible cells have in common lies in both.
-cut_both_is : (a b : Option Cell) (p : Place) → Holds (cut_both a b) p ↔ (Holds a p × Holds b p)
+pub cut_both_is : (a b : Option Cell) (p : Place) → Holds (cut_both a b) p ↔ (Holds a p × Holds b p)
 cut_both_is (Some a) (Some b) p = (cut_law a b).shared p
 cut_both_is (Some a) None p = (λ h. absurd h, λ h. absurd h.1)
 cut_both_is None b p = (λ h. absurd h, λ h. absurd h.0)

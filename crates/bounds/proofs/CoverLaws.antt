@@ -25,6 +25,9 @@ use Rattle.bounds.proofs.SetLaws.{node_in, uncut, has, has_is, has_in}
 
 -- what is known of a leaf node, and of an inner node
 module _ (nodes : List Node) (i : ℕ) (h : i < length nodes) where
+  pub leaf_count : (k : ℕ) → node_at nodes i ≡ Leaf k → (cover_at nodes i).leaves ≡ 1
+  leaf_count k is = ap (λ (c : Cover). c.leaves) (value_leaf cover_rule nodes i k (Leaf 0) h is)
+
   pub leaf_covers : (k : ℕ) → node_at nodes i ≡ Leaf k → (j : ℕ) → (cover_at nodes i).covers j ≡ eqb i j
   leaf_covers k is j = ap (λ (c : Cover). c.covers j) (value_leaf cover_rule nodes i k (Leaf 0) h is)
 
@@ -32,16 +35,19 @@ module _ (nodes : List Node) (i : ℕ) (h : i < length nodes) where
     inner_cover : cover_at nodes i ≡ record { leaves = (cover_at nodes l).leaves + (cover_at nodes r).leaves; covers = covers_inner o (cover_at nodes l) (cover_at nodes r) }
     inner_cover = let below = inner_below nodes tree i o l r h is in value_inner cover_rule nodes i o l r (Leaf 0) h is below.0 below.1
 
+    pub inner_count : (cover_at nodes i).leaves ≡ (cover_at nodes l).leaves + (cover_at nodes r).leaves
+    inner_count = ap (λ (c : Cover). c.leaves) inner_cover
+
     pub inner_covers : (j : ℕ) → (cover_at nodes i).covers j ≡ covers_inner o (cover_at nodes l) (cover_at nodes r) j
     inner_covers j = ap (λ (c : Cover). c.covers j) inner_cover
 
 -- How many leaf nodes a node is made of that was read from a checked tree.
 module _ (t : BoundedTree) (i : ℕ) (h : i < length (nodes_of t)) (e : BoundedNode) (read : e ≡ get_or (nodes_of t) i blank) where
-  pub leaf_count : (k : ℕ) → e.node ≡ Leaf k → 1 ≡ (cover_at (nodes_in (nodes_of t)) i).leaves
-  leaf_count k is = sym (ap (λ (c : Cover). c.leaves) (value_leaf cover_rule (nodes_in (nodes_of t)) i k (Leaf 0) (seen_here t i h) (seen_node t i h e (Leaf k) read is)))
+  pub leaf_count_told : (k : ℕ) → e.node ≡ Leaf k → 1 ≡ (cover_at (nodes_in (nodes_of t)) i).leaves
+  leaf_count_told k is = sym (leaf_count (nodes_in (nodes_of t)) i (seen_here (nodes_of t) i h) k (seen_node (nodes_of t) i h e (Leaf k) read is))
 
-  pub inner_count : (o : Operation) (l r m n : ℕ) → e.node ≡ Inner o l r → m ≡ (cover_at (nodes_in (nodes_of t)) l).leaves → n ≡ (cover_at (nodes_in (nodes_of t)) r).leaves → m + n ≡ (cover_at (nodes_in (nodes_of t)) i).leaves
-  inner_count o l r m n is left right = omega (arith, left, right, ap (λ (c : Cover). c.leaves) (inner_cover (nodes_in (nodes_of t)) i (seen_here t i h) (tree_of t) o l r (seen_node t i h e (Inner o l r) read is)))
+  pub inner_count_told : (o : Operation) (l r m n : ℕ) → e.node ≡ Inner o l r → m ≡ (cover_at (nodes_in (nodes_of t)) l).leaves → n ≡ (cover_at (nodes_in (nodes_of t)) r).leaves → m + n ≡ (cover_at (nodes_in (nodes_of t)) i).leaves
+  inner_count_told o l r m n is left right = omega (arith, left, right, inner_count (nodes_in (nodes_of t)) i (seen_here (nodes_of t) i h) (tree_of t) o l r (seen_node (nodes_of t) i h e (Inner o l r) read is))
 
 -- what covers an inner node covers one of its children
 covers_from : (o : Operation) (a b : Cover) (j : ℕ) → covers_inner o a b j ≡ true → (a.covers j ≡ true) ⊎ (b.covers j ≡ true)
@@ -104,11 +110,9 @@ module _ (table : List BoundedNode) (tree : Tree (nodes_in table)) (sets : List 
   covered_by : (i : ℕ) → i < length table → has sets p table i ≡ true → Covered i
   covered_by = rising (λ i. i < length table → has sets p table i ≡ true → Covered i) (λ i ih h t. covered_node i ih h t (node_in table i) refl)
 
-pub cover_law : (t : BoundedTree) → CoverLaw (nodes_of t)
+pub cover_law : (table : List BoundedNode) → Tree (nodes_in table) → CoverLaw table
 unfolding Covered
-cover_law t =
-    let table = nodes_of t in
-    let tree = tree_of t in
+cover_law table tree =
     let nodes = nodes_in table in
     let long = nodes_count table in
     let root : root_of table ≡ root_of nodes = omega arith in
@@ -117,3 +121,7 @@ cover_law t =
       leaf = λ i among. covering_leaf nodes tree i (root_of nodes) (omega (arith, tree.some)) ((just i).0 among).1;
       covered = λ sets p c. let d = covered_by table tree sets p (root_of table) (omega (arith, tree.some)) c in (d.0, ((just d.0).1 (omega (arith, d.1), ap (λ n. (cover_at nodes n).covers d.0) (sym root) ∙ d.2), d.3));
     }
+
+-- The same of a checked tree.
+pub cover_told : (t : BoundedTree) → CoverLaw (nodes_of t)
+cover_told t = cover_law (nodes_of t) (tree_of t)

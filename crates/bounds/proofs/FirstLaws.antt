@@ -36,7 +36,7 @@ filled_more f slots bare i d y h k is so_far =
     ∙ sym (take_more (map f bare) i blank (omega (arith, length-map bare f)))
 
 -- the nodes of the first table are those that were handed over
-nodes_first : (m : Meaning) (workspace : Cell) (bare : List BareNode) → nodes_in (first_bounds m workspace bare) ≡ nodes_from bare
+pub nodes_first : (m : Meaning) (workspace : Cell) (bare : List BareNode) → nodes_in (first_bounds m workspace bare) ≡ nodes_from bare
 nodes_first m workspace [] = refl
 nodes_first m workspace (b ∷ rest) = ap (λ ns. node_from b ∷ ns) (nodes_first m workspace rest)
 
@@ -95,7 +95,7 @@ module _ (m : Meaning) (facts : Facts m) (workspace : Cell) (bare : List BareNod
   agrees = rising Agrees (λ i ih h. agrees_node i ih h (node_at (nodes_from bare) i) refl)
 
   -- The root's bounded set is its set within the workspace.
-  first_root : root_set m.sets first_table p ≡ (inside p workspace && tree_set m.sets (nodes_from bare) p)
+  pub first_root : root_set m.sets first_table p ≡ (inside p workspace && tree_set m.sets (nodes_from bare) p)
   first_root =
       let long = length-map bare node_from in
       let root : root_of first_table ≡ root_of (nodes_from bare) = omega (arith, length-map bare (λ b. first_node m workspace (node_from b))) in

@@ -23,10 +23,10 @@ use Rattle.bounds.specs.Trees.{nodes_of}
 use Rattle.bounds.specs.Tables.{nodes_in, blank, bound_at}
 use Rattle.bounds.specs.Sets.{cut_set, bounded_rule, bounded_set, root_set}
 use Rattle.bounds.specs.Judgement.{opposite, union_of, both_of, differ_of, join_relations, judge_rule, judged_at, judged, asks_right}
-use Rattle.bounds.proofs.TableLaws.{inner_lower, tree_of, seen_below}
+use Rattle.bounds.proofs.TableLaws.{inner_lower, tree_of}
 
 -- Where the second child is not asked, it does not matter.
-join_unasked : (o : Operation) (b q r s : Relation) → asks_right o b q ≡ false → both_of b (join_relations o q r) ≡ both_of b (join_relations o q s)
+pub join_unasked : (o : Operation) (b q r s : Relation) → asks_right o b q ≡ false → both_of b (join_relations o q r) ≡ both_of b (join_relations o q s)
 join_unasked Union b Inside r s e = refl
 join_unasked Union Inside Mixed r s e = absurd (true≢false e)
 join_unasked Union Outside Mixed r s e = refl
@@ -50,37 +50,40 @@ join_unasked Differ b Inside r s e = absurd (true≢false e)
 join_unasked Differ b Outside r s e = absurd (true≢false e)
 join_unasked Differ b Mixed r s e = refl
 
--- The judgement by one node that was read from a checked tree.
-module _ (m : Meaning) (t : BoundedTree) (c : Cell) (i : ℕ) (here : i < length (nodes_of t)) (e : BoundedNode) (read : e ≡ get_or (nodes_of t) i blank) (b : Relation) (bound : b ≡ box_relation e.bound c) where
-  pub judged_leaf : (k : ℕ) → e.node ≡ Leaf k → both_of b (m.relation k c) ≡ judged_at m (nodes_of t) c i
+-- The judgement by one node.
+module _ (m : Meaning) (table : List BoundedNode) (tree : Tree (nodes_in table)) (c : Cell) (i : ℕ) (here : i < length table) (e : BoundedNode) (read : e ≡ get_or table i blank) (b : Relation) (bound : b ≡ box_relation e.bound c) where
+  pub judged_leaf : (k : ℕ) → e.node ≡ Leaf k → both_of b (m.relation k c) ≡ judged_at m table c i
   judged_leaf k is =
       ap (λ x. both_of x (m.relation k c)) (bound ∙ ap (λ (x : BoundedNode). box_relation x.bound c) read)
-      ∙ sym (value_leaf (judge_rule m c) (nodes_of t) i k blank here (ap (λ x. x.node) (sym read) ∙ is))
+      ∙ sym (value_leaf (judge_rule m c) table i k blank here (ap (λ x. x.node) (sym read) ∙ is))
 
-  judged_both : (o : Operation) (l r : ℕ) → e.node ≡ Inner o l r → both_of b (join_relations o (judged_at m (nodes_of t) c l) (judged_at m (nodes_of t) c r)) ≡ judged_at m (nodes_of t) c i
-  judged_both o l r is =
-      let at_i : (get_or (nodes_of t) i blank).node ≡ Inner o l r = ap (λ x. x.node) (sym read) ∙ is in
-      let lower = seen_below t i here e read o l r is in
-      ap (λ x. both_of x (join_relations o (judged_at m (nodes_of t) c l) (judged_at m (nodes_of t) c r))) (bound ∙ ap (λ (x : BoundedNode). box_relation x.bound c) read)
-      ∙ sym (value_inner (judge_rule m c) (nodes_of t) i o l r blank here at_i lower.0 lower.1)
+  pub judged_inner : (o : Operation) (l r : ℕ) → e.node ≡ Inner o l r → both_of b (join_relations o (judged_at m table c l) (judged_at m table c r)) ≡ judged_at m table c i
+  judged_inner o l r is =
+      let at_i : (get_or table i blank).node ≡ Inner o l r = ap (λ x. x.node) (sym read) ∙ is in
+      let lower = inner_lower table tree i o l r here at_i in
+      ap (λ x. both_of x (join_relations o (judged_at m table c l) (judged_at m table c r))) (bound ∙ ap (λ (x : BoundedNode). box_relation x.bound c) read)
+      ∙ sym (value_inner (judge_rule m c) table i o l r blank here at_i lower.0 lower.1)
 
-  -- an inner node, from the relation of its left child, and that of its right child where it was asked
-  pub judged_inner : (o : Operation) (l r : ℕ) → e.node ≡ Inner o l r → (q s : Relation) → q ≡ judged_at m (nodes_of t) c l → (asked : Bool) → asked ≡ asks_right o b q → (asked ≡ true → s ≡ judged_at m (nodes_of t) c r) → both_of b (join_relations o q s) ≡ judged_at m (nodes_of t) c i
-  judged_inner o l r is q s left asked asks right =
-      ⊎_elim
-      (λ t. ap (λ x. both_of b (join_relations o q x)) (right t))
-      (λ f. join_unasked o b q s (judged_at m (nodes_of t) c r) (sym asks ∙ f))
-      (cases_Bool asked)
-      ∙ ap (λ x. both_of b (join_relations o x (judged_at m (nodes_of t) c r))) left
-      ∙ judged_both o l r is
-
-  missed_node : (n : Node) → e.node ≡ n → b ≡ Outside → Outside ≡ judged_at m (nodes_of t) c i
+  missed_node : (n : Node) → e.node ≡ n → b ≡ Outside → Outside ≡ judged_at m table c i
   missed_node (Leaf k) is out = ap (λ x. both_of x (m.relation k c)) (sym out) ∙ judged_leaf k is
-  missed_node (Inner o l r) is out = ap (λ x. both_of x (join_relations o (judged_at m (nodes_of t) c l) (judged_at m (nodes_of t) c r))) (sym out) ∙ judged_both o l r is
+  missed_node (Inner o l r) is out = ap (λ x. both_of x (join_relations o (judged_at m table c l) (judged_at m table c r))) (sym out) ∙ judged_inner o l r is
 
   -- a node whose bound misses the cell
-  pub judged_missed : b ≡ Outside → Outside ≡ judged_at m (nodes_of t) c i
+  pub judged_missed : b ≡ Outside → Outside ≡ judged_at m table c i
   judged_missed out = missed_node e.node refl out
+
+  -- an inner node, from the relations of its children
+  module _ (o : Operation) (l r : ℕ) (is : e.node ≡ Inner o l r) (q : Relation) (left : q ≡ judged_at m table c l) where
+    pub judged_both : (s : Relation) → s ≡ judged_at m table c r → both_of b (join_relations o q s) ≡ judged_at m table c i
+    judged_both s right = ap (λ x. both_of b (join_relations o x s)) left ∙ ap (λ x. both_of b (join_relations o (judged_at m table c l) x)) right ∙ judged_inner o l r is
+
+    -- where that of the right one is known only if it was asked
+    pub judged_asked : (s : Relation) (asked : Bool) → asked ≡ asks_right o b q → (asked ≡ true → s ≡ judged_at m table c r) → both_of b (join_relations o q s) ≡ judged_at m table c i
+    judged_asked s asked asks right =
+        ⊎_elim
+        (λ t. judged_both s (right t))
+        (λ f. join_unasked o b q s (judged_at m table c r) (sym asks ∙ f) ∙ judged_both (judged_at m table c r) refl)
+        (cases_Bool asked)
 
 -- What relations say under the operations.
 
@@ -109,7 +112,7 @@ de_morgan true true = refl
 de_morgan true false = refl
 de_morgan false b = refl
 
-says_both : (q r : Relation) (s t : PlaceSet) (c : Cell) → Says q s c → Says r t c → Says (both_of q r) (join_sets Both s t) c
+pub says_both : (q r : Relation) (s t : PlaceSet) (c : Cell) → Says q s c → Says r t c → Says (both_of q r) (join_sets Both s t) c
 says_both q r s t c h k =
     says_same (both_of q r) (without (join_sets Union (without s) (without t))) (join_sets Both s t) c (λ p. de_morgan (s p) (t p))
     (says_opposite (union_of (opposite q) (opposite r)) (join_sets Union (without s) (without t)) c (says_union (opposite q) (opposite r) (without s) (without t) c (says_opposite q s c h) (says_opposite r t c k)))
@@ -147,7 +150,7 @@ module _ (m : Meaning) (facts : Facts m) (table : List BoundedNode) (tree : Tree
       let both = says_cut i (join_relations o (judged_at m table c l) (judged_at m table c r)) (join_sets o (bounded_set m.sets table l) (bounded_set m.sets table r)) join in
       subst (λ q. Says q (bounded_set m.sets table i) c) (sym judgement) (subst (λ s. Says (both_of (box_relation (bound_at table i) c) (join_relations o (judged_at m table c l) (judged_at m table c r))) s c) (sym set) both)
 
-  judged_says : (i : ℕ) → i < length table → Says (judged_at m table c i) (bounded_set m.sets table i) c
+  pub judged_says : (i : ℕ) → i < length table → Says (judged_at m table c i) (bounded_set m.sets table i) c
   judged_says = rising (λ i. i < length table → Says (judged_at m table c i) (bounded_set m.sets table i) c) (λ i ih h. says_node i h ih (get_or table i blank).node refl)
 
 -- The judgement by the root of a checked tree, likewise.

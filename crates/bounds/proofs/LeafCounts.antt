@@ -13,7 +13,7 @@ use Rattle.bounds.specs.Tables.{nodes_in, blank}
 use Rattle.bounds.specs.Covering.{Cover, cover_rule, cover_at}
 use Rattle.bounds.specs.Trees.{nodes_of}
 use Rattle.bounds.proofs.TableLaws.{tree_of, seen_here}
-use Rattle.bounds.proofs.CoverLaws.{inner_count}
+use Rattle.bounds.proofs.CoverLaws.{inner_count_told}
 
 -- The nodes before number k name a child no more often than all do, and node k adds what it names itself.
 front_few : (nodes : List Node) (k c : ℕ) → times_named (take k nodes) c ≤ times_named nodes c
@@ -89,4 +89,4 @@ leaves_few nodes tree i h =
 
 pub inner_few : (t : BoundedTree) (i : ℕ) → i < length (nodes_of t) → (e : BoundedNode) → e ≡ get_or (nodes_of t) i blank → (o : Operation) (l r m n : ℕ) → e.node ≡ Inner o l r → m ≡ (cover_at (nodes_in (nodes_of t)) l).leaves → n ≡ (cover_at (nodes_in (nodes_of t)) r).leaves → m + n ≤ i + 1
 inner_few t i h e read o l r m n is left right =
-    omega (arith, inner_count t i h e read o l r m n is left right, leaves_few (nodes_in (nodes_of t)) (tree_of t) i (seen_here t i h))
+    omega (arith, inner_count_told t i h e read o l r m n is left right, leaves_few (nodes_in (nodes_of t)) (tree_of t) i (seen_here (nodes_of t) i h))

@@ -11,7 +11,7 @@ use Rattle.bounds.specs.Tightening.{reach, cut_by_children, cut_children, upward
 pub nodes_narrowed : (table : List BoundedNode) (i : ℕ) (b : Option Cell) → nodes_in (narrowed table i b) ≡ nodes_in table
 nodes_narrowed table i b = map-set_same (λ e. e.node) table i (cut_node (get_or table i blank) b) blank refl
 
-nodes_by_children : (n : Node) (i : ℕ) (table : List BoundedNode) → nodes_in (cut_by_children n i table) ≡ nodes_in table
+pub nodes_by_children : (n : Node) (i : ℕ) (table : List BoundedNode) → nodes_in (cut_by_children n i table) ≡ nodes_in table
 nodes_by_children (Leaf k) i table = refl
 nodes_by_children (Inner o l r) i table = nodes_narrowed table i (reach o (bound_at table l) (bound_at table r))
 

@@ -165,7 +165,7 @@ downward_child (suc n) table tree q c h k l named =
     (cases_eq q n)
 
 -- The bounds after a tightening are those of its rule.
-tightened_rule : (table : List BoundedNode) → Tree (nodes_in table) → Tightened table (tightened table)
+pub tightened_rule : (table : List BoundedNode) → Tree (nodes_in table) → Tightened table (tightened table)
 unfolding risen_at
 tightened_rule table tree =
     let up = upward (length table) table in
@@ -187,7 +187,7 @@ tightened_rule table tree =
     }
 
 -- A tightening keeps what it should, and is what it should be.
-tighten_law : (table : List BoundedNode) → Tree (nodes_in table) → TightenLaw table (tightened table)
+pub tighten_law : (table : List BoundedNode) → Tree (nodes_in table) → TightenLaw table (tightened table)
 tighten_law table tree =
     let up = upward (length table) table in
     record {

@@ -15,7 +15,7 @@ use Rattle.bounds.specs.Trees.{nodes_of}
 use Rattle.bounds.specs.Tables.{entries, nodes_in, blank, cut_node, narrowed, Good}
 
 -- A node of the table is one of those that are shown.
-shown_at : (nodes : List BoundedNode) (count i : ℕ) (d : BoundedNode) → i < count → i < length nodes → get_or nodes i d ≡ get_or (take count nodes) i blank
+pub shown_at : (nodes : List BoundedNode) (count i : ℕ) (d : BoundedNode) → i < count → i < length nodes → get_or nodes i d ≡ get_or (take count nodes) i blank
 shown_at nodes count i d h k = get_or_default nodes i d blank k ∙ sym (get_or-take count nodes i blank h)
 
 -- To narrow a node of the table is to narrow it among those that are shown.
@@ -57,14 +57,14 @@ good_from t tree whole =
       parents = λ child h. tree.parents child (omega arith);
     }
 
--- A node that was read from a checked tree.
-module _ (t : BoundedTree) (i : ℕ) (h : i < length (nodes_of t)) where
-  pub seen_here : i < length (nodes_in (nodes_of t))
-  seen_here = omega (arith, nodes_count (nodes_of t))
+-- A node that was read from a table.
+module _ (table : List BoundedNode) (i : ℕ) (h : i < length table) where
+  pub seen_here : i < length (nodes_in table)
+  seen_here = omega (arith, nodes_count table)
 
-  pub seen_node : (e : BoundedNode) (n : Node) → e ≡ get_or (nodes_of t) i blank → e.node ≡ n → node_at (nodes_in (nodes_of t)) i ≡ n
-  seen_node e n read is = entry_node (nodes_of t) i h ∙ ap (λ x. x.node) (sym read) ∙ is
+  pub seen_node : (e : BoundedNode) (n : Node) → e ≡ get_or table i blank → e.node ≡ n → node_at (nodes_in table) i ≡ n
+  seen_node e n read is = entry_node table i h ∙ ap (λ x. x.node) (sym read) ∙ is
 
-  -- its children have lower numbers
-  pub seen_below : (e : BoundedNode) → e ≡ get_or (nodes_of t) i blank → (o : Operation) (l r : ℕ) → e.node ≡ Inner o l r → (l < i) × (r < i)
-  seen_below e read o l r is = inner_lower (nodes_of t) (tree_of t) i o l r h (ap (λ x. x.node) (sym read) ∙ is)
+-- The children of a node that was read from a checked tree have lower numbers.
+pub seen_below : (t : BoundedTree) (i : ℕ) → i < length (nodes_of t) → (e : BoundedNode) → e ≡ get_or (nodes_of t) i blank → (o : Operation) (l r : ℕ) → e.node ≡ Inner o l r → (l < i) × (r < i)
+seen_below t i h e read o l r is = inner_lower (nodes_of t) (tree_of t) i o l r h (ap (λ x. x.node) (sym read) ∙ is)

@@ -69,7 +69,7 @@ impl BoundedTree {
     }
 
     // The leaf nodes that cover the tree.
-    #[tactic(auto, using(crate::proofs::CoverLaws::cover_law))]
+    #[tactic(auto, using(crate::proofs::CoverLaws::cover_told))]
     pub fn covering(&self) -> CoveringLeaves
         ensures is { numbers_of result ≡ covering_leaves (nodes_in (nodes_of self.now)) }
         ensures law { CoverLaw (nodes_of self.now) }

@@ -109,7 +109,7 @@ module _ (s : PlaceSet) where
     none_in : Decides false (Somewhere (λ p. In p c) s true) → NoneIn s c
     none_in nobody p i = ⊎_elim (λ t. absurd (false≢true (nobody.1 (p, (i, t))))) (λ f. f) (cases_Bool (s p))
 
-    shown_exact : (held free : Bool) → Shows (λ p. In p c) s held free → Exact (seen_relation held free) s c
+    pub shown_exact : (held free : Bool) → Shows (λ p. In p c) s held free → Exact (seen_relation held free) s c
     shown_exact true true shows =
         let one = shows.held_tells.0 refl in
         let other = shows.free_tells.0 refl in

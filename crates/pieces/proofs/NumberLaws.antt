@@ -11,10 +11,10 @@ numbers : (x y : Float) → x ≤ᶠ y → (x ≡ nan → ⊥) × (y ≡ nan →
 unfolding is_nan
 numbers x y h = (λ e. subst NotNan e (le_left x y h), λ e. subst NotNan e (le_right x y h))
 
-lt_numbers : (x y : Float) → lt x y ≡ true → (x ≡ nan → ⊥) × (y ≡ nan → ⊥)
+pub lt_numbers : (x y : Float) → lt x y ≡ true → (x ≡ nan → ⊥) × (y ≡ nan → ⊥)
 lt_numbers x y t = numbers x y (le_of_lt x y (T_from_true (lt x y) t))
 
-le_numbers : (x y : Float) → le x y ≡ true → (x ≡ nan → ⊥) × (y ≡ nan → ⊥)
+pub le_numbers : (x y : Float) → le x y ≡ true → (x ≡ nan → ⊥) × (y ≡ nan → ⊥)
 le_numbers x y t = numbers x y (T_from_true (le x y) t)
 
 pub low_numbers : (edge : Edge) (m : Float) (r : Bool) → r ≡ from_low edge m → r ≡ true → Numbers edge m
