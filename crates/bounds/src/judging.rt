@@ -95,6 +95,7 @@ impl BoundedTree {
     }
 
     // How the bounded set of the root lies to a cell.
+    #[tactic(auto, using(crate::proofs::JudgeLaws::judged_told))]
     pub fn judge<B: Bank>(&self, bank: &B, cell: Cell) -> Relation
         ensures is { result ≡ judged (B.Bank.meaning bank.now) (nodes_of self.now) cell }
         ensures law { Says result (root_set (B.Bank.meaning bank.now).sets (nodes_of self.now)) cell }

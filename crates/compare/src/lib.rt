@@ -41,6 +41,7 @@ impl<A: Pattern, B: Pattern> Comparison<'_, A, B> {
     }
 
     // How many places of the cell are so held, counted by halving the cell down to single places.
+    #[tactic(auto, using(crate::proofs::Counting::single_counted))]
     pub fn count(&self, cell: Cell, holder: Holder) -> u64
         ensures counted { Counted (held_by holder (first_leaf (A.Pattern.sets self.now.first.now)) (first_leaf (B.Pattern.sets self.now.second.now))) cell result }
         ensures few { result ≤ places_of cell }

@@ -43,6 +43,7 @@ impl Cell {
     }
 
     // The cell with these ends; refused if a number is off the grid, or else if a low end is above its high end.
+    #[tactic(auto, using(crate::proofs::RefusalLaws::upside_down, crate::proofs::RefusalLaws::workspace_between))]
     pub fn workspace(low: BarePlace, high: BarePlace) -> Result<Cell, Refusal>
         ensures { numbered result ≡ workspace_of low high }
     {
@@ -95,6 +96,7 @@ impl Cell {
     }
 
     // Whether every place of the cell lies in the other.
+    #[tactic(auto, using(crate::proofs::Meanings::within_law))]
     pub fn lies_in(&self, other: Cell) -> bool
         ensures is { result ≡ within self.now other }
         ensures law { WithinLaw self.now other result }
@@ -111,6 +113,7 @@ impl Cell {
     }
 
     // Whether the cell has one place only.
+    #[tactic(auto, using(crate::proofs::Meanings::decides_single, crate::proofs::PlaceLaws::place_ext))]
     pub fn is_one_place(&self) -> bool
         ensures is { result ≡ single self.now }
         ensures law { Decides result ((p : Place) → In p self.now → p ≡ self.now.low) }

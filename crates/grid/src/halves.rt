@@ -67,6 +67,7 @@ impl Cell {
     }
 
     // The number of places.
+    #[tactic(auto, using(crate::proofs::Meanings::most_told, crate::proofs::PlaceCount::counted_told))]
     pub fn places(&self) -> u64
         ensures is { result ≡ places_of self.now }
         ensures most { result ≤ 2 ^ 31 }

@@ -1,7 +1,6 @@
-use Rattle.std.proofs.Common.{arith, rules}
+use Rattle.std.proofs.Common.{arith}
 use Rattle.grid.proofs.Meanings.{places_most}
 use Rattle.grid.proofs.CountLaws.{count_halves}
-use Rattle.compare.proofs.Counting.{single_counted}
 use Rattle.compare.proofs.Comparison.+count.Goals as goal
 
 pub overflow_add-result : goal.overflow_add-result
@@ -11,7 +10,3 @@ overflow_add-result g t c =
 
 pub returns-in-Some-clause-counted : goal.returns-in-Some-clause-counted
 returns-in-Some-clause-counted g t c = count_halves _ c.args.cell c.in-Some.ensures.law c.count.ensures.counted c.count-in-Some.ensures.counted
-
-pub returns-in-None-clause-counted : goal.returns-in-None-clause-counted
-returns-in-None-clause-counted g t c =
-    single_counted _ c.args.cell c.low.result c.is_held_by.result c.from.result c.in-None.ensures.law c.low.ensures (search rules) c.from.ensures
